@@ -1,0 +1,150 @@
+-- Document 01, "Events".
+-- Assumes nothing.
+use Prim.Native.Nat.{ℕ, zero, suc, _+_}
+use mathlib.Core.Bool.{Bool, true, false, _&&_}
+use mathlib.Core.List.{List, [], _∷_}
+use lib.Dec.{leb, eqb}
+use lib.ListN.{length, getD, drop}
+use Rattle.model.specs.Basics.{if_then_else_, number}
+use Rattle.model.specs.Map.{Grid, is-domain, rights}
+use Rattle.model.specs.States.{full, is-waiting, set-register, with-status, received, context, put, with-active, switch}
+use Rattle.model.specs.Instructions.{Deed, Done, plan, carry}
+use Rattle.model.specs.declared.map.Map.{Map}
+use Rattle.model.specs.declared.state.Reason.{Reason}
+use Rattle.model.specs.declared.state.Status.{Status}
+use Rattle.model.specs.declared.state.Context.{Context}
+use Rattle.model.specs.declared.state.State.{State}
+use Rattle.model.specs.declared.event.Event.{Event}
+use Rattle.model.specs.declared.event.Answer.{Answer}
+use Rattle.model.specs.declared.event.EventRead.{EventRead}
+use Rattle.model.specs.declared.refusal.Refusal.{Refusal}
+use Rattle.model.specs.declared.call.Close.{Close}
+use Rattle.model.specs.declared.call.Ending.{Ending}
+
+-- ---- a step
+
+pub record Outcome : Type 0 where
+  pub answer : Answer
+  pub state : State
+  pub memory : List ℕ
+
+abbrev pub gives : Answer → State → List ℕ → Outcome
+gives a s memory = record { answer = a; state = s; memory = memory }
+
+-- the word is in the box of domain t
+abbrev pub delivered : State → ℕ → ℕ → ℕ → State
+delivered s t w from = put s t (received (context s t) w from)
+
+-- "otherwise R0 becomes 1 and the box is filled, or R0 becomes 0 if it was full"
+unfoldable pub sent : State → ℕ → ℕ → ℕ → Context → State
+sent s d t w c =
+    if full (context s t .mailbox) then put s d (set-register c 0 0) else delivered (put s d (set-register c 0 1)) t w d
+
+-- what domain d's deed makes of the state. "A fault sets the status, changes nothing else of the domain, memory or boxes, and switches."
+unfoldable pub perform : ℕ → State → ℕ → List ℕ → Deed → Outcome
+perform count s d memory (Deed.runs c) = gives (Answer.Ran d) (put s d c) memory
+perform count s d memory (Deed.gives-way c) = gives (Answer.Ran d) (switch count (put s d c)) memory
+perform count s d memory Deed.waits =
+    gives (Answer.Waits d) (switch count (put s d (with-status (context s d) Status.Waiting))) memory
+perform count s d memory Deed.halts =
+    gives (Answer.Halted d) (switch count (put s d (with-status (context s d) Status.Halted))) memory
+perform count s d memory (Deed.faults r) =
+    gives (Answer.Faulted d r) (switch count (put s d (with-status (context s d) (Status.Faulted r)))) memory
+perform count s d memory (Deed.sends t w c) = gives (Answer.Ran d) (sent s d t w c) memory
+
+-- what the active domain's instruction comes to
+abbrev pub attempt : Map → Grid → State → List ℕ → Done
+attempt m g s memory = carry (rights m g (s .active)) memory (plan (context s (s .active)))
+
+-- "idle for a step or tick when active is 0, changing nothing"
+unfoldable pub step : Map → Grid → State → List ℕ → Outcome
+step m g s memory =
+    let done = attempt m g s memory in
+    if eqb (s .active) 0 then gives Answer.Idle s memory else perform (m .count) s (s .active) (done .memory) (done .deed)
+
+unfoldable pub tick : ℕ → State → List ℕ → Outcome
+tick count s memory =
+    if eqb (s .active) 0 then gives Answer.Idle s memory else gives (Answer.Switched (switch count s .active)) (switch count s) memory
+
+-- "word in, from sender 0; if idle and the receiver becomes ready, it becomes active"
+abbrev pub roused : State → ℕ → State → State
+roused s b t = if eqb (s .active) 0 && is-waiting (context s b .status) then with-active t b else t
+
+unfoldable pub word-in : ℕ → State → List ℕ → ℕ → ℕ → Outcome
+word-in count s memory b w =
+    if is-domain count b
+    then (if full (context s b .mailbox)
+    then gives (Answer.Full b) s memory
+    else gives (Answer.Taken b) (roused s b (delivered s b w 0)) memory)
+    else gives (Answer.NoDomain b) s memory
+
+unfoldable pub event : Map → Grid → State → List ℕ → Event → Outcome
+event m g s memory Event.Step = step m g s memory
+event m g s memory Event.Tick = tick (m .count) s memory
+event m g s memory (Event.WordIn b w) = word-in (m .count) s memory b w
+
+-- ---- a trace
+
+pub record Run : Type 0 where
+  pub answers : List Answer
+  pub state : State
+  pub memory : List ℕ
+
+unfoldable pub run : Map → Grid → State → List ℕ → List Event → Run
+run m g s memory [] = record { answers = []; state = s; memory = memory }
+run m g s memory (e ∷ es) =
+    let o = event m g s memory e in
+    let rest = run m g (o .state) (o .memory) es in
+    record { answers = o .answer ∷ rest .answers; state = rest .state; memory = rest .memory }
+
+-- the event at the front of the bytes and how many it takes, or 11 or 12. "Kind 3, body of a domain byte and a 32-bit word"
+unfoldable pub event-read : List ℕ → EventRead
+event-read s =
+    if eqb (getD s 0 0) 1 then EventRead.Whole Event.Step 1
+    else (if eqb (getD s 0 0) 2 then EventRead.Whole Event.Tick 1
+    else (if eqb (getD s 0 0) 3
+    then (if leb 6 (length s) then EventRead.Whole (Event.WordIn (getD s 1 0) (number s 2)) 6 else EventRead.Broken Refusal.EventShort)
+    else EventRead.Broken Refusal.EventKind))
+
+pub record Trace : Type 0 where
+  pub events : List Event
+  pub close : Close
+
+abbrev pub ended : Close → Trace
+ended x = record { events = []; close = x }
+
+abbrev pub follow : Event → Trace → Trace
+follow e t = record { events = e ∷ t .events; close = t .close }
+
+abbrev pub next : ℕ → EventRead → (ℕ → Trace) → Trace
+next at (EventRead.Whole e n) go = follow e (go n)
+next at (EventRead.Broken r) go = ended (Close.Broken r at)
+
+abbrev pub at-end : List ℕ → Trace → Trace
+at-end [] t = ended Close.Done
+at-end (b ∷ rest) t = t
+
+-- "Playing a trace stops at its first broken record with 11 or 12, its offset and the events done": the events before it, and how it closes.
+-- A record takes a byte at least, so as many rounds as there are bytes are enough
+unfoldable pub trace : ℕ → ℕ → List ℕ → Trace
+trace zero at s = ended Close.Done
+trace (suc rounds) at s =
+    let t = next at (event-read s) (λ n. trace rounds (at + n) (drop n s)) in at-end s t
+
+-- ---- a batch: "takes a limit of steps and stops early when idle; it reports how many steps were not idle"
+
+pub record Batch : Type 0 where
+  pub steps : ℕ
+  pub ending : Ending
+  pub state : State
+  pub memory : List ℕ
+
+abbrev pub one-more : Batch → Batch
+one-more b = record { steps = b .steps + 1; ending = b .ending; state = b .state; memory = b .memory }
+
+unfoldable pub batch : Map → Grid → State → List ℕ → ℕ → Batch
+batch m g s memory zero = record { steps = 0; ending = Ending.Spent; state = s; memory = memory }
+batch m g s memory (suc limit) =
+    let o = step m g s memory in
+    let rest = one-more (batch m g (o .state) (o .memory) limit) in
+    if eqb (s .active) 0 then record { steps = 0; ending = Ending.Idle; state = s; memory = memory } else rest

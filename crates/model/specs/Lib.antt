@@ -1,0 +1,10 @@
+pub mod Basics
+pub mod Map
+pub mod Refusals
+pub mod Sheet
+pub mod States
+pub mod Table
+pub mod Instructions
+pub mod Events
+pub mod Calls
+pub mod Whole

@@ -1,0 +1,27 @@
+// "Map and access": what a map holds. The channel grid stands beside it, as `[[bool; 8]; 8]` by value.
+use crate::MOST;
+
+// Half open: begin up to but without end.
+pub struct Region {
+    pub begin: u32,
+    pub end: u32,
+}
+
+pub struct Domain {
+    pub code: Region,
+    pub data: Region,
+    pub entry: u32,
+}
+
+pub struct Map {
+    pub length: u32,
+    pub kernel: Region,
+    pub count: u8,
+    pub domains: [Domain; MOST],
+}
+
+pub enum Access {
+    Read,
+    Write,
+    Fetch,
+}

@@ -1,0 +1,2 @@
+pub mod CaseL
+pub mod Edges

@@ -1,0 +1,1 @@
+// The promises are theorems over crate model's definitions; this crate has no code.
