@@ -1,6 +1,8 @@
 pub mod Basics
+pub mod BasicsLaws
 pub mod Map
 pub mod Refusals
+pub mod RefusalsLaws
 pub mod Sheet
 pub mod States
 pub mod Table
