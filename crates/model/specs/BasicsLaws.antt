@@ -20,6 +20,12 @@ pub by-option {ℓ} : {A : Type ℓ} (o : Option ℕ) → (o ≡ none → A) →
 by-option none f g = f refl
 by-option (some n) f g = g n refl
 
+pub none-some : {n : ℕ} → _≡_ {A = Option ℕ} none (some n) → ⊥
+none-some e = let z : _≡_ {A = ℕ} 0 1 = cc in omega arith
+
+pub true-false : {b : Bool} → b ≡ true → b ≡ false → ⊥
+true-false e f = let z : _≡_ {A = ℕ} 0 1 = cc in omega arith
+
 pub and-left : (a b : Bool) → a && b ≡ true → a ≡ true
 and-left true b e = refl
 and-left false b e = e

@@ -90,12 +90,12 @@ pub record Run : Type 0 where
   pub state : State
   pub memory : List ℕ
 
+abbrev pub then-run : Outcome → Run → Run
+then-run o rest = record { answers = o .answer ∷ rest .answers; state = rest .state; memory = rest .memory }
+
 unfoldable pub run : Map → Grid → State → List ℕ → List Event → Run
 run m g s memory [] = record { answers = []; state = s; memory = memory }
-run m g s memory (e ∷ es) =
-    let o = event m g s memory e in
-    let rest = run m g (o .state) (o .memory) es in
-    record { answers = o .answer ∷ rest .answers; state = rest .state; memory = rest .memory }
+run m g s memory (e ∷ es) = let o = event m g s memory e in then-run o (run m g (o .state) (o .memory) es)
 
 -- the event at the front of the bytes and how many it takes, or 11 or 12. "Kind 3, body of a domain byte and a 32-bit word"
 unfoldable pub event-read : List ℕ → EventRead

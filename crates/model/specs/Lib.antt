@@ -1,6 +1,7 @@
 pub mod Basics
 pub mod BasicsLaws
 pub mod Map
+pub mod MapLaws
 pub mod Refusals
 pub mod RefusalsLaws
 pub mod Sheet
@@ -8,5 +9,6 @@ pub mod States
 pub mod Table
 pub mod Instructions
 pub mod Events
+pub mod EventsLaws
 pub mod Calls
 pub mod Whole

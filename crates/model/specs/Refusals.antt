@@ -63,12 +63,13 @@ sized n = leb 256 n && leb n 65536
 abbrev pub within : ℕ → Region → Bool
 within n r = leb (r .begin) (r .end) && leb (r .end) n
 
--- 6: the region shares no address with the kernel or with a sub-region of the first i domains
+-- 6: the region shares no address with the domain; nor with the kernel or one of the first i domains
+abbrev pub free-of : Region → Domain → Bool
+free-of r d = not (overlaps r (d .code)) && not (overlaps r (d .«data»))
+
 unfoldable pub clear : Map → Region → ℕ → Bool
 clear m r zero = not (overlaps r (m .kernel))
-clear m r (suc i) =
-    let rest = clear m r i in
-    not (overlaps r (getD (m .domains) i absent .code)) && not (overlaps r (getD (m .domains) i absent .«data»)) && rest
+clear m r (suc i) = let rest = clear m r i in free-of r (getD (m .domains) i absent) && rest
 
 -- 4, 5 and 6 for a domain that stands after the first i
 unfoldable pub domain-verdict : Map → ℕ → Domain → Verdict

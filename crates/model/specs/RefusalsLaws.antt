@@ -9,9 +9,11 @@ use native.Mathlib.Nat.{add-zero, zero-add}
 use lib.Dec.{leb, ltb, eqb}
 use lib.ListN.{getD}
 use borrow.Author.Tests.{ltb-true, ltb-false, leb-true, le-leb}
-use Rattle.model.specs.Map.{most, absent, Grid}
-use Rattle.model.specs.Refusals.{check, _▸_, counted, zero-domain, unused-zero, sized, within, domain-verdict, domains-verdict, cell, from, to, is-channel, channels-good, map-verdict, accepts}
+use Rattle.model.specs.Map.{most, absent, inside, overlaps, Grid}
+use Rattle.model.specs.Refusals.{check, _▸_, counted, zero-domain, unused-zero, sized, within, free-of, clear, domain-verdict, domains-verdict, cell, from, to, is-channel, channels-good, map-verdict, accepts}
 use Rattle.model.specs.BasicsLaws.{by-bool, and-left, and-right, and-both}
+use Rattle.model.specs.declared.map.Region.{Region}
+use Rattle.model.specs.declared.map.Domain.{Domain}
 use Rattle.model.specs.declared.map.Map.{Map}
 use Rattle.model.specs.declared.refusal.Refusal.{Refusal}
 use Rattle.model.specs.declared.call.Verdict.{Verdict}
@@ -134,3 +136,57 @@ accept m g a =
     (check-both Refusal.Length (and-both (le-leb _ _ (a .long)) (le-leb _ _ (a .short)))
     (check-both Refusal.Bounds (a .kernel) (domains-from m 0 (m .count) (λ k p q. a .each k (omega arith)))))))
     (rw (cells-from (m .count) g 0 (most * most) (λ k p q. a .channels k (omega arith))))
+
+-- ---- what an accepted domain that stands after the first i tells
+
+pub record Placed (m : Map) (i : ℕ) (d : Domain) : Type 0 where
+  pub code : within (m .length) (d .code) ≡ true
+  pub held : within (m .length) (d .«data») ≡ true
+  pub entry : inside (d .code) (d .entry) ≡ true
+  pub code-clear : clear m (d .code) i ≡ true
+  pub data-clear : clear m (d .«data») i ≡ true
+  pub split : not (overlaps (d .«data») (d .code)) ≡ true
+
+pub placed : (m : Map) (i : ℕ) (d : Domain) → domain-verdict m i d ≡ Verdict.Accepted → Placed m i d
+unfolding domain-verdict
+placed m i d e =
+    let v₅ = check (clear m (d .«data») i && not (overlaps (d .«data») (d .code))) Refusal.Overlap in
+    let v₄ = check (clear m (d .code) i) Refusal.Overlap ▸ v₅ in
+    let v₃ = check (inside (d .code) (d .entry)) Refusal.Entry ▸ v₄ in
+    let v₂ = check (within (m .length) (d .«data»)) Refusal.Bounds ▸ v₃ in
+    let a = then-right (check (within (m .length) (d .code)) Refusal.Bounds) v₂ e in
+    let b = then-right (check (within (m .length) (d .«data»)) Refusal.Bounds) v₃ a in
+    let c = then-right (check (inside (d .code) (d .entry)) Refusal.Entry) v₄ b in
+    let f = check-true _ Refusal.Overlap (then-right (check (clear m (d .code) i) Refusal.Overlap) v₅ c) in
+    record {
+      code = check-true _ Refusal.Bounds (then-left _ v₂ e);
+      held = check-true _ Refusal.Bounds (then-left _ v₃ a);
+      entry = check-true _ Refusal.Entry (then-left _ v₄ b);
+      code-clear = check-true _ Refusal.Overlap (then-left _ v₅ c);
+      data-clear = and-left (clear m (d .«data») i) _ f;
+      split = and-right (clear m (d .«data») i) _ f;
+    }
+
+pub place-domain : (m : Map) (i : ℕ) (d : Domain) → Placed m i d → domain-verdict m i d ≡ Verdict.Accepted
+unfolding domain-verdict
+place-domain m i d p =
+    check-both Refusal.Bounds (p .code)
+    (check-both Refusal.Bounds (p .held)
+    (check-both Refusal.Entry (p .entry)
+    (check-both Refusal.Overlap (p .code-clear) (rw (p .data-clear, p .split)))))
+
+pub clear-kernel : (m : Map) (r : Region) (i : ℕ) → clear m r i ≡ true → not (overlaps r (m .kernel)) ≡ true
+unfolding clear
+clear-kernel m r zero e = e
+clear-kernel m r (suc i) e = clear-kernel m r i (and-right (free-of r (getD (m .domains) i absent)) _ e)
+
+pub clear-domain :
+    (m : Map) (r : Region) (i k : ℕ) → clear m r i ≡ true → k < i → free-of r (getD (m .domains) k absent) ≡ true
+unfolding clear
+clear-domain m r zero k e h = absurd (omega arith)
+clear-domain m r (suc i) k e h =
+    by-bool (ltb k i)
+    (λ l. clear-domain m r i k (and-right (free-of r (getD (m .domains) i absent)) _ e) (ltb-true k i l))
+    (λ l.
+    let q : i ≡ k = omega (arith, ltb-false k i l) in
+    rw q at (and-left (free-of r (getD (m .domains) i absent)) (clear m r i) e))
