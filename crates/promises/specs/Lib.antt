@@ -1,3 +1,6 @@
 pub mod CaseL
 pub mod Edges
 pub mod Wider
+pub mod Table1
+pub mod Isolation
+pub mod Batches

@@ -1,0 +1,204 @@
+-- Isolation of a step, over the definition: demand 2, "an access happens if the rule allows its every byte, and otherwise not at all".
+--     isolated      what a step does depends on memory only where the active domain may read (by lemma 7 also: fetch), and it sets
+--                   a run of bytes each of which the domain may write, or none
+--     untouched     so a byte that the domain may not write is as it was
+--     fault-only    a fault sets the status, and the switch the active domain; nothing else changes
+--     elsewhere     tick and word-in change no memory
+-- What the domain may not write, read or fetch is Table1's.
+-- Assumes nothing.
+use Prim.Native.Nat.{ℕ, zero, suc, _+_, _≤_, _<_}
+use mathlib.Core.Path.{_≡_, refl, sym, ap, ap₂, _∙_}
+use mathlib.Core.Bool.{Bool, true, false}
+use mathlib.Core.List.{List, [], _∷_}
+use mathlib.Core.Logic.{_≢_}
+use mathlib.Core.Option.{none, some}
+use native.Mathlib.Omega.{arith}
+use lib.Dec.{eqb}
+use lib.ListN.{length, getD, set}
+use lib.Seq.{sets, getD-set-other, length-sets}
+use borrow.Author.Tests.{eqb-false}
+use Rattle.model.specs.BasicsLaws.{by-bool, by-option, true-false}
+use Rattle.model.specs.Map.{Grid, is-domain, Rights, rights, domain, may, lowest}
+use Rattle.model.specs.MapLaws.{lowest-none, may-read}
+use Rattle.model.specs.States.{with-status, context, put, switch, full}
+use Rattle.model.specs.Instructions.{Plan, Deed, Done, kept, peek, carry, plan}
+use Rattle.model.specs.Events.{Outcome, gives, sent, perform, attempt, step, tick, word-in, event}
+use Rattle.model.specs.EventsLaws.{acts, step-idle, step-acts}
+use Rattle.model.specs.declared.map.Map.{Map}
+use Rattle.model.specs.declared.map.Access.{Access}
+use Rattle.model.specs.declared.state.Reason.{Reason}
+use Rattle.model.specs.declared.state.Status.{Status}
+use Rattle.model.specs.declared.state.State.{State}
+use Rattle.model.specs.declared.event.Event.{Event}
+use Rattle.model.specs.declared.event.Answer.{Answer}
+
+-- ---- one plan, with two memories that agree wherever an access is allowed
+
+-- both memories get the same bytes at the same place, and each of them may be written there. No bytes: nothing changes
+pub record Set (writes : ℕ → Bool) (before after before′ after′ : List ℕ) : Type 0 where
+  pub place : ℕ
+  pub bytes : List ℕ
+  pub allowed : (i : ℕ) → i < length bytes → writes (place + i) ≡ true
+  pub here : after ≡ sets before place bytes
+  pub there : after′ ≡ sets before′ place bytes
+
+unset : (writes : ℕ → Bool) (memory memory′ : List ℕ) → Set writes memory memory memory′ memory′
+unset writes memory memory′ =
+    record { place = 0; bytes = []; allowed = λ i h. absurd (omega arith); here = refl; there = refl }
+
+module _ (q : Rights) (memory memory′ : List ℕ) where
+  abbrev Alike : Plan → Type 0
+  Alike p =
+      (carry q memory p .deed ≡ carry q memory′ p .deed)
+      × Set (q .allows Access.Write) memory (carry q memory p .memory) memory′ (carry q memory′ p .memory)
+
+  module _ (same : (k : Access) (a : ℕ) → q .allows k a ≡ true → getD memory a 0 ≡ getD memory′ a 0) where
+    peek-alike :
+        (k : Access) (a n : ℕ) → ((i : ℕ) → i < n → q .allows k (a + i) ≡ true) → peek memory a n ≡ peek memory′ a n
+    unfolding peek
+    peek-alike k a zero h = refl
+    peek-alike k a (suc n) h =
+        let z : a + 0 ≡ a = omega arith in
+        ap₂ _∷_ (same k a (rw z at (h 0 (omega arith))))
+        (peek-alike k (a + 1) n (λ i l. let y : a + suc i ≡ a + 1 + i = omega arith in rw y at (h (suc i) (omega arith))))
+
+    carry-alike : (p : Plan) → Alike p
+    unfolding carry
+    carry-alike (Plan.ask k a n go) =
+        by-option (lowest (q .allows k) a n)
+        (λ e. rw (e, peek-alike k a n (lowest-none (q .allows k) a n e)) (carry-alike (go (peek memory′ a n))))
+        (λ x e. rw e (refl, unset _ memory memory′))
+    carry-alike (Plan.store a bs c) =
+        by-option (lowest (q .allows Access.Write) a (length bs))
+        (λ e. rw e (refl, record { place = a; bytes = bs; allowed = lowest-none _ a (length bs) e; here = refl; there = refl }))
+        (λ x e. rw e (refl, unset _ memory memory′))
+    carry-alike (Plan.pass t w c) =
+        by-bool (q .sends t) (λ e. rw e (refl, unset _ memory memory′)) (λ e. rw e (refl, unset _ memory memory′))
+    carry-alike (Plan.end x) = (refl, unset _ memory memory′)
+
+-- ---- one step
+
+-- a deed's answer and state do not look at the memory, which it hands on
+perform-hands-on :
+    (count : ℕ) (s : State) (d : ℕ) (memory : List ℕ) (x : Deed)
+    → perform count s d memory x ≡ gives (perform count s d [] x .answer) (perform count s d [] x .state) memory
+unfolding perform
+perform-hands-on count s d memory (Deed.runs c) = refl
+perform-hands-on count s d memory (Deed.gives-way c) = refl
+perform-hands-on count s d memory Deed.waits = refl
+perform-hands-on count s d memory Deed.halts = refl
+perform-hands-on count s d memory (Deed.faults r) = refl
+perform-hands-on count s d memory (Deed.sends t w c) = refl
+
+-- two outcomes that differ in nothing but what the memories did before, where the domain may not read
+pub record Isolated (writes : ℕ → Bool) (memory memory′ : List ℕ) (o o′ : Outcome) : Type 0 where
+  pub answers : o .answer ≡ o′ .answer
+  pub states : o .state ≡ o′ .state
+  pub written : Set writes memory (o .memory) memory′ (o′ .memory)
+
+acts-alike :
+    (writes : ℕ → Bool) (memory memory′ : List ℕ) (count : ℕ) (s : State) (x x′ : Done)
+    → x .deed ≡ x′ .deed → Set writes memory (x .memory) memory′ (x′ .memory)
+    → Isolated writes memory memory′ (acts count s x) (acts count s x′)
+acts-alike writes memory memory′ count s x x′ e w =
+    rw (perform-hands-on count s (s .active) (x .memory) (x .deed), perform-hands-on count s (s .active) (x′ .memory) (x′ .deed), e)
+    (record { answers = refl; states = refl; written = w })
+
+pub isolated :
+    (m : Map) (g : Grid) (s : State) (memory memory′ : List ℕ)
+    → ((a : ℕ) → may (domain m (s .active)) Access.Read a ≡ true → getD memory a 0 ≡ getD memory′ a 0)
+    → Isolated (may (domain m (s .active)) Access.Write) memory memory′ (step m g s memory) (step m g s memory′)
+isolated m g s memory memory′ same =
+    by-bool (eqb (s .active) 0)
+    (λ e.
+    rw (step-idle m g s memory e, step-idle m g s memory′ e)
+    (record { answers = refl; states = refl; written = unset _ memory memory′ }))
+    (λ e.
+    let h = carry-alike (rights m g (s .active)) memory memory′ (λ k a x. same a (may-read (domain m (s .active)) k a x))
+    (plan (context s (s .active))) in
+    rw (step-acts m g s memory e, step-acts m g s memory′ e)
+    (acts-alike _ memory memory′ (m .count) s (attempt m g s memory) (attempt m g s memory′) (h .0) (h .1)))
+
+-- ---- what may not be written is as it was
+
+sets-elsewhere :
+    (l : List ℕ) (a : ℕ) (bs : List ℕ) (x : ℕ) → ((i : ℕ) → i < length bs → x ≢ a + i) → getD (sets l a bs) x 0 ≡ getD l x 0
+sets-elsewhere l a [] x h = refl
+sets-elsewhere l a (b ∷ bs) x h =
+    sets-elsewhere (set l a b) (suc a) bs x (λ i k e. h (suc i) (omega arith) (omega arith))
+    ∙ getD-set-other l a x b 0 (λ e. h 0 (omega arith) (omega arith))
+
+pub untouched :
+    (m : Map) (g : Grid) (s : State) (memory : List ℕ) (x : ℕ)
+    → may (domain m (s .active)) Access.Write x ≡ false → getD (step m g s memory .memory) x 0 ≡ getD memory x 0
+untouched m g s memory x e =
+    let w = isolated m g s memory memory (λ a h. refl) .written in
+    ap (λ l. getD l x 0) (w .here)
+    ∙ sets-elsewhere memory (w .place) (w .bytes) x
+    (λ i h f. true-false (ap (may (domain m (s .active)) Access.Write) f ∙ w .allowed i h) e)
+
+pub as-long : (m : Map) (g : Grid) (s : State) (memory : List ℕ) → length (step m g s memory .memory) ≡ length memory
+as-long m g s memory =
+    let w = isolated m g s memory memory (λ a h. refl) .written in
+    ap length (w .here) ∙ length-sets memory (w .place) (w .bytes)
+
+pub tick-elsewhere : (m : Map) (g : Grid) (s : State) (memory : List ℕ) → event m g s memory Event.Tick .memory ≡ memory
+unfolding event tick
+tick-elsewhere m g s memory = by-bool (eqb (s .active) 0) (λ e. rw e) (λ e. rw e)
+
+pub word-elsewhere :
+    (m : Map) (g : Grid) (s : State) (memory : List ℕ) (b w : ℕ) → event m g s memory (Event.WordIn b w) .memory ≡ memory
+unfolding event word-in
+word-elsewhere m g s memory b w =
+    by-bool (is-domain (m .count) b) (λ e. by-bool (full (context s b .mailbox)) (λ f. rw (e, f)) (λ f. rw (e, f))) (λ e. rw e)
+
+-- ---- a fault
+
+carry-fault :
+    (q : Rights) (memory : List ℕ) (p : Plan) (r : Reason) → carry q memory p .deed ≡ Deed.faults r
+    → carry q memory p ≡ kept memory (Deed.faults r)
+unfolding carry
+carry-fault q memory (Plan.ask k a n go) r =
+    by-option (lowest (q .allows k) a n) (λ e. rw e (carry-fault q memory (go (peek memory a n)) r)) (λ x e. rw e (ap (kept memory)))
+carry-fault q memory (Plan.store a bs c) r =
+    by-option (lowest (q .allows Access.Write) a (length bs)) (λ e. rw e (λ h. cc)) (λ x e. rw e (ap (kept memory)))
+carry-fault q memory (Plan.pass t w c) r =
+    by-bool (q .sends t) (λ e. rw e (ap (kept memory))) (λ e. rw e (ap (kept memory)))
+carry-fault q memory (Plan.end x) r = ap (kept memory)
+
+perform-fault :
+    (count : ℕ) (s : State) (d : ℕ) (memory : List ℕ) (x : Deed) (f : ℕ) (r : Reason)
+    → perform count s d memory x .answer ≡ Answer.Faulted f r → (d ≡ f) × (x ≡ Deed.faults r)
+unfolding perform
+perform-fault count s d memory (Deed.runs c) f r e = ((cc), (cc))
+perform-fault count s d memory (Deed.gives-way c) f r e = ((cc), (cc))
+perform-fault count s d memory Deed.waits f r e = ((cc), (cc))
+perform-fault count s d memory Deed.halts f r e = ((cc), (cc))
+perform-fault count s d memory (Deed.faults y) f r e = ((cc), (cc))
+perform-fault count s d memory (Deed.sends t w c) f r e = ((cc), (cc))
+
+-- the outcome of a fault of the active domain, and of nothing else
+abbrev pub faulted : ℕ → State → List ℕ → Reason → Outcome
+faulted count s memory r =
+    gives (Answer.Faulted (s .active) r)
+    (switch count (put s (s .active) (with-status (context s (s .active)) (Status.Faulted r)))) memory
+
+pub fault-only :
+    (m : Map) (g : Grid) (s : State) (memory : List ℕ) (e : Event) (d : ℕ) (r : Reason)
+    → event m g s memory e .answer ≡ Answer.Faulted d r
+    → (s .active ≡ d) × (event m g s memory e ≡ faulted (m .count) s memory r)
+unfolding event tick word-in perform
+fault-only m g s memory Event.Step d r =
+    by-bool (eqb (s .active) 0)
+    (λ e. rw (step-idle m g s memory e) (λ h. ((cc), (cc))))
+    (λ e h.
+    let a = step-acts m g s memory e in
+    let x = attempt m g s memory in
+    let f = perform-fault (m .count) s (s .active) (x .memory) (x .deed) d r (sym (ap (λ o. o .answer) a) ∙ h) in
+    (f .0, a ∙ ap (acts (m .count) s) (carry-fault (rights m g (s .active)) memory (plan (context s (s .active))) r (f .1))))
+fault-only m g s memory Event.Tick d r =
+    by-bool (eqb (s .active) 0) (λ e. rw e (λ h. ((cc), (cc)))) (λ e. rw e (λ h. ((cc), (cc))))
+fault-only m g s memory (Event.WordIn b w) d r =
+    by-bool (is-domain (m .count) b)
+    (λ e. by-bool (full (context s b .mailbox)) (λ f. rw (e, f) (λ h. ((cc), (cc)))) (λ f. rw (e, f) (λ h. ((cc), (cc)))))
+    (λ e. rw e (λ h. ((cc), (cc))))
