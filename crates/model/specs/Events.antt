@@ -28,6 +28,18 @@ pub record Outcome : Type 0 where
   pub state : State
   pub memory : List ℕ
 
+-- the domain that an answer names; idle names none, "domain 0 means the device or nobody"
+abbrev pub answer-domain : Answer → ℕ
+answer-domain Answer.Idle = 0
+answer-domain (Answer.Ran d) = d
+answer-domain (Answer.Waits d) = d
+answer-domain (Answer.Halted d) = d
+answer-domain (Answer.Faulted d r) = d
+answer-domain (Answer.Switched d) = d
+answer-domain (Answer.Taken d) = d
+answer-domain (Answer.Full d) = d
+answer-domain (Answer.NoDomain b) = b
+
 abbrev pub gives : Answer → State → List ℕ → Outcome
 gives a s memory = record { answer = a; state = s; memory = memory }
 

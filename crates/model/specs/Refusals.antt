@@ -30,6 +30,11 @@ refusal-number Refusal.EventShort = 12
 refusal-number Refusal.Malformed = 13
 refusal-number Refusal.NoDomain = 14
 
+-- a verdict as the paper prints it: the number, or 0 where there is no refusal
+abbrev pub verdict-number : Verdict → ℕ
+verdict-number Verdict.Accepted = 0
+verdict-number (Verdict.Refused r) = refusal-number r
+
 -- one test and the refusal where it fails; one verdict and, where it accepts, the next
 abbrev pub check : Bool → Refusal → Verdict
 check true r = Verdict.Accepted

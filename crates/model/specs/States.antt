@@ -14,6 +14,15 @@ use Rattle.model.specs.declared.state.Mailbox.{Mailbox}
 use Rattle.model.specs.declared.state.Context.{Context}
 use Rattle.model.specs.declared.state.State.{State}
 
+-- "fetch, read or write with an address, kind or register with a byte, channel with a byte": that address or byte
+abbrev pub reason-number : Reason → ℕ
+reason-number (Reason.Fetch a) = a
+reason-number (Reason.Read a) = a
+reason-number (Reason.Write a) = a
+reason-number (Reason.Kind b) = b
+reason-number (Reason.Register b) = b
+reason-number (Reason.Channel b) = b
+
 -- ---- a box: "holding at most one word with its sender"
 
 abbrev pub empty-box : Mailbox

@@ -6,13 +6,12 @@ use mathlib.Core.List.{List, [], _∷_, _++_}
 use lib.ListN.{replicate}
 use lib.Seq.{sets}
 use Rattle.model.specs.Map.{absent}
-use Rattle.model.specs.Refusals.{accepts}
+use Rattle.model.specs.Refusals.{verdict-number, accepts}
 use Rattle.model.specs.States.{start}
 use Rattle.model.specs.Events.{run}
 use Rattle.model.specs.Whole.{whole}
+use Rattle.model.specs.declared.map.Domain.{Domain}
 use Rattle.model.specs.declared.map.Map.{Map}
-use Rattle.model.specs.declared.refusal.Refusal.{Refusal}
-use Rattle.model.specs.declared.call.Verdict.{Verdict}
 use Rattle.model.specs.declared.state.Reason.{Reason}
 use Rattle.model.specs.declared.event.Event.{Event}
 use Rattle.model.specs.declared.event.Answer.{Answer}
@@ -20,7 +19,7 @@ use Rattle.promises.specs.CaseL.{region, one, two, L-map, L-grid}
 
 -- what the definitions give, and what the paper says
 pub data Says : Type 0 where
-  verdict : Verdict → Says
+  number : ℕ → Says
   answers : List Answer → Says
 
 pub record Case : Type 0 where
@@ -35,18 +34,17 @@ abbrev pub Hold : List Case → Type 0
 Hold [] = Unit {0}
 Hold (c ∷ cs) = (c .given ≡ c .paper) × Hold cs
 
+-- Case L's map at another length, with another domain 1
+abbrev with-length : ℕ → Domain → Map
+with-length n d = record { length = n; kernel = region 0 32; count = 2; domains = d ∷ two ∷ replicate 6 absent }
+
 abbrev of-length : ℕ → Says
-of-length n =
-    Says.verdict (accepts (record { length = n; kernel = region 0 32; count = 2; domains = one ∷ two ∷ replicate 6 absent }) L-grid)
+of-length n = Says.number (verdict-number (accepts (with-length n one) L-grid))
 
 abbrev with-data : ℕ → ℕ → Says
 with-data b e =
-    Says.verdict (accepts (record {
-      length = 256;
-      kernel = region 0 32;
-      count = 2;
-      domains = record { code = region 32 64; «data» = region b e; entry = 32 } ∷ two ∷ replicate 6 absent;
-    }) L-grid)
+    let d : Domain = record { code = region 32 64; «data» = region b e; entry = 32 } in
+    Says.number (verdict-number (accepts (with-length 256 d) L-grid))
 
 -- the program in memory from a on, all else zero; the answers to the events from the start
 abbrev runs : ℕ → List ℕ → List Event → Says
@@ -60,21 +58,21 @@ abbrev at-R1 : List ℕ → List ℕ → Says
 at-R1 n instruction = runs 32 (1 ∷ 1 ∷ n ++ instruction) twice
 
 abbrev accepted : Says
-accepted = Says.verdict Verdict.Accepted
+accepted = Says.number 0
 
-abbrev refused : Refusal → Says
-refused r = Says.verdict (Verdict.Refused r)
+abbrev refused : ℕ → Says
+refused n = Says.number n
 
 abbrev ran-then : Answer → Says
 ran-then x = Says.answers (Answer.Ran 1 ∷ x ∷ [])
 
 abbrev pub cases : List Case
 cases =
-    (of-length 255 is refused Refusal.Length)
+    (of-length 255 is refused 3)
     ∷ (of-length 256 is accepted)
     ∷ (of-length 65536 is accepted)
-    ∷ (of-length 65537 is refused Refusal.Length)
-    ∷ (with-data 63 96 is refused Refusal.Overlap)
+    ∷ (of-length 65537 is refused 3)
+    ∷ (with-data 63 96 is refused 6)
     ∷ (at-R1 (92 ∷ 0 ∷ 0 ∷ 0 ∷ []) (12 ∷ 2 ∷ 1 ∷ 0 ∷ []) is ran-then (Answer.Ran 1))
     ∷ (at-R1 (93 ∷ 0 ∷ 0 ∷ 0 ∷ []) (12 ∷ 2 ∷ 1 ∷ 0 ∷ []) is ran-then (Answer.Faulted 1 (Reason.Write 96)))
     ∷ (at-R1 (62 ∷ 0 ∷ 0 ∷ 0 ∷ []) (10 ∷ 2 ∷ 1 ∷ 0 ∷ []) is ran-then (Answer.Ran 1))

@@ -4,3 +4,4 @@ pub mod Wider
 pub mod Table1
 pub mod Isolation
 pub mod Batches
+pub mod Met

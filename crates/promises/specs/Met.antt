@@ -1,0 +1,73 @@
+-- The premises of the promises can be met: Case L's map, grid, start and memory meet them, and a wider map than Case L's exists.
+-- Assumes nothing.
+use Prim.Native.Nat.{ℕ, zero, suc, _≤_, _-_}
+use mathlib.Core.Path.{_≡_, refl}
+use mathlib.Core.Bool.{Bool, true, false, _&&_}
+use mathlib.Core.List.{List, [], _∷_}
+use native.Mathlib.Omega.{arith}
+use lib.Dec.{leb}
+use lib.ListN.{replicate}
+use borrow.Author.Tests.{leb-true}
+use Rattle.model.specs.BasicsLaws.{by-bool, and-left, and-right}
+use Rattle.model.specs.Map.{absent, inside, Grid, domain, is-domain, may, granted, marked}
+use Rattle.model.specs.MapLaws.{inside-from, inside-below, inside-between}
+use Rattle.model.specs.Refusals.{accepts}
+use Rattle.model.specs.Sheet.{mark}
+use Rattle.model.specs.Whole.{whole}
+use Rattle.model.specs.declared.map.Domain.{Domain}
+use Rattle.model.specs.declared.map.Map.{Map}
+use Rattle.model.specs.declared.map.Access.{Access}
+use Rattle.model.specs.declared.call.Verdict.{Verdict}
+use Rattle.promises.specs.CaseL.{region, one, L-map, L-grid, L-acceptable}
+use Rattle.promises.specs.Wider.{Wider}
+
+one-or-two : (P : ℕ → Type 0) → P 1 → P 2 → (d : ℕ) → 1 ≤ d → d ≤ 2 → P d
+one-or-two P p q zero l h = absurd (omega arith)
+one-or-two P p q (suc zero) l h = p
+one-or-two P p q (suc (suc zero)) l h = q
+one-or-two P p q (suc (suc (suc d))) l h = absurd (omega arith)
+
+-- Case L's map with a longer data sub-region for domain 2 and a channel from 2 to 1
+abbrev pub roomier : Domain
+roomier = record { code = region 96 128; «data» = region 128 192; entry = 96 }
+
+abbrev pub L-wide : Map
+L-wide = record { length = 256; kernel = region 0 32; count = 2; domains = one ∷ roomier ∷ replicate 6 absent }
+
+abbrev pub L-wide-grid : Grid
+L-wide-grid = mark L-grid 2 1
+
+data-longer : (a : ℕ) → inside (region 128 160) a ≡ true → inside (region 128 192) a ≡ true
+data-longer a e =
+    inside-between (region 128 192) a (inside-from (region 128 160) a e)
+    (let h = inside-below (region 128 160) a e in omega arith)
+
+second-wider : (k : Access) (a : ℕ) → may (domain L-map 2) k a ≡ true → may (domain L-wide 2) k a ≡ true
+unfolding may
+second-wider Access.Read a e =
+    by-bool (inside (region 96 128) a) (λ t. rw t) (λ f. let h = rw f at e in rw f (data-longer a h))
+second-wider Access.Write a e = data-longer a e
+second-wider Access.Fetch a e = e
+
+second-sends : (t : ℕ) → granted 2 L-grid 2 t ≡ true → granted 2 L-wide-grid 2 t ≡ true
+unfolding granted
+second-sends t e =
+    let h = and-left (is-domain 2 t) _ e in
+    one-or-two (λ t. granted 2 L-grid 2 t ≡ true → granted 2 L-wide-grid 2 t ≡ true) (λ x. refl) (λ x. x) t
+    (leb-true 1 t (and-left (leb 1 t) _ h)) (leb-true t 2 (and-right (leb 1 t) _ h)) e
+
+pub L-wider : Wider L-map L-grid L-wide L-wide-grid
+unfolding whole
+L-wider =
+    record {
+      first = L-acceptable;
+      second = refl;
+      length = refl;
+      count = refl;
+      entries = one-or-two (λ d. domain L-map d .entry ≡ domain L-wide d .entry) refl refl;
+      access =
+          one-or-two (λ d. (k : Access) (a : ℕ) → may (domain L-map d) k a ≡ true → may (domain L-wide d) k a ≡ true)
+          (λ k a e. e) second-wider;
+      channel =
+          one-or-two (λ d. (t : ℕ) → granted 2 L-grid d t ≡ true → granted 2 L-wide-grid d t ≡ true) (λ t e. e) second-sends;
+    }
