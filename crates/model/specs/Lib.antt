@@ -4,6 +4,8 @@ pub mod Map
 pub mod Refusals
 pub mod RefusalsLaws
 pub mod Sheet
+pub mod GridLaws
+pub mod ChannelLaws
 pub mod States
 pub mod Table
 pub mod Instructions
