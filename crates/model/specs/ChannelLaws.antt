@@ -39,7 +39,7 @@ place-ends : (p : ℕ) → place (from p) (to p) ≡ p
 place-ends p = omega arith
 
 -- what holds below p and at p holds below p + 1
-one-more : {P : ℕ → Type 0} (p : ℕ) → ((k : ℕ) → k < p → P k) → P p → (k : ℕ) → k < p + 1 → P k
+pub one-more : {P : ℕ → Type 0} (p : ℕ) → ((k : ℕ) → k < p → P k) → P p → (k : ℕ) → k < p + 1 → P k
 one-more {P} p h e k b =
     by-bool (ltb k p) (λ q. h k (ltb-true k p q)) (λ q. let d : p ≡ k = omega (arith, ltb-false k p q) in rw d at e)
 
