@@ -6,6 +6,7 @@ pub mod RefusalsLaws
 pub mod Sheet
 pub mod GridLaws
 pub mod ChannelLaws
+pub mod RecordLaws
 pub mod SheetLaws
 pub mod States
 pub mod Table

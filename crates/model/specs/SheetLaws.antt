@@ -1,83 +1,33 @@
--- Laws of Sheet: length, kernel and domain records.
+-- Laws of Sheet: a run of domain records.
+--     Agree                 two maps that give the same verdict on a domain, by verdict-agrees
+--     domains-length        how many bytes they are
+--     domains-back          written and read back with what follows, they give the map and the grid
+--     domains-known         what a reading of them tells: written again, they are the bytes that were read
 -- Assumes nothing.
-use Prim.Native.Nat.{ℕ, zero, suc, _+_, _-_, _*_, _^_, _≤_, _<_}
+use Prim.Native.Nat.{ℕ, zero, suc, _+_, _-_, _*_, _≤_, _<_}
 use mathlib.Core.Path.{_≡_, refl, sym, ap, _∙_}
 use mathlib.Core.Logic.{_≢_}
-use mathlib.Core.Bool.{Bool, true, false, _&&_, _||_, not}
+use mathlib.Core.Bool.{Bool, true, false, _&&_, not}
 use mathlib.Core.List.{List, [], _∷_, _++_}
 use native.Mathlib.Omega.{arith}
-use lib.Dec.{leb, ltb, eqb}
-use lib.ListN.{length, getD, set, take, drop, length-set}
+use lib.Dec.{ltb, eqb}
+use lib.ListN.{length, getD, take, drop, length-set}
 use lib.Seq.{getD-set-same, getD-set-other, ext-getD}
-use borrow.Author.Tests.{ltb-true, ltb-false, leb-true, le-leb, eqb-true, ne-eqb}
-use Rattle.model.specs.Basics.{if_then_else_, bytes, number}
-use Rattle.model.specs.BasicsLaws.{by-bool, and-left, and-right, and-both, number-bytes}
-use Rattle.model.specs.Map.{most, nowhere, absent, Grid, no-grid, inside, overlaps}
-use Rattle.model.specs.Refusals.{check, _▸_, within, clear, zero-region, zero-domain, domain-verdict, cell}
-use Rattle.model.specs.RefusalsLaws.{check-true, then-left, then-right, then-both, entry-good, Acceptable}
-use Rattle.model.specs.Sheet.{Found, body, judged, region-bytes, domain-record, region-of, domain-of, with-domain, domain-records, domains-read, channel-records, channels-read}
+use borrow.Author.Tests.{ltb-true, ltb-false, eqb-true, eqb-false, ne-eqb}
+use Rattle.model.specs.Basics.{if_then_else_, bytes}
+use Rattle.model.specs.BasicsLaws.{by-bool, and-left, and-right}
+use Rattle.model.specs.Map.{most, nowhere, absent, Grid, no-grid, overlaps}
+use Rattle.model.specs.Refusals.{clear, zero-region, zero-domain, domain-verdict, cell}
+use Rattle.model.specs.RefusalsLaws.{domain-accepted, cell-good, entry-good, Acceptable}
+use Rattle.model.specs.Sheet.{Found, judged, region-bytes, domain-record, domain-of, with-domain, domain-records, domains-read, channel-records, channels-read}
 use Rattle.model.specs.GridLaws.{Square, Shaped, square}
-use Rattle.model.specs.ChannelLaws.{one-more, channels-back}
+use Rattle.model.specs.ChannelLaws.{one-more, not-refused, judged-known, channels-back, channels-known}
+use Rattle.model.specs.RecordLaws.{Small, verdict-small, domain-back, body-present, body-known, Octets, octets-drop, domain-spelt}
 use Rattle.model.specs.declared.map.Region.{Region}
 use Rattle.model.specs.declared.map.Domain.{Domain}
 use Rattle.model.specs.declared.map.Map.{Map}
 use Rattle.model.specs.declared.refusal.Refusal.{Refusal}
 use Rattle.model.specs.declared.call.Verdict.{Verdict}
-
--- ---- numbers that four bytes hold
-
-pub record Narrow (r : Region) : Type 0 where
-  pub begin : r .begin < 2 ^ 32
-  pub end : r .end < 2 ^ 32
-
-pub within-narrow : (n : ℕ) (r : Region) → n ≤ 65536 → within n r ≡ true → Narrow r
-within-narrow n r h e =
-    let a = leb-true (r .begin) (r .end) (and-left _ (leb (r .end) n) e) in
-    let b = leb-true (r .end) n (and-right (leb (r .begin) (r .end)) _ e) in
-    omega arith
-
-record Small (d : Domain) : Type 0 where
-  code : Narrow (d .code)
-  datas : Narrow (d .«data»)
-  entry : d .entry < 2 ^ 32
-
-verdict-small : (m : Map) (i : ℕ) (d : Domain) → m .length ≤ 65536 → domain-verdict m i d ≡ Verdict.Accepted → Small d
-unfolding domain-verdict
-verdict-small m i d h e =
-    let v₃ = check (clear m (d .code) i) Refusal.Overlap
-    ▸ check (clear m (d .«data») i && not (overlaps (d .«data») (d .code))) Refusal.Overlap in
-    let v₂ = check (inside (d .code) (d .entry)) Refusal.Entry ▸ v₃ in
-    let v₁ = check (within (m .length) (d .«data»)) Refusal.Bounds ▸ v₂ in
-    let b = then-right (check (within (m .length) (d .code)) Refusal.Bounds) v₁ e in
-    let c = then-right (check (within (m .length) (d .«data»)) Refusal.Bounds) v₂ b in
-    let n = within-narrow (m .length) (d .code) h (check-true _ Refusal.Bounds (then-left _ v₁ e)) in
-    let x = check-true (inside (d .code) (d .entry)) Refusal.Entry (then-left _ v₃ c) in
-    let y = ltb-true (d .entry) (d .code .end) (and-right (leb (d .code .begin) (d .entry)) _ x) in
-    record {
-      code = n;
-      datas = within-narrow (m .length) (d .«data») h (check-true _ Refusal.Bounds (then-left _ v₂ b));
-      entry = omega arith;
-    }
-
--- ---- a record written and read back
-
-pub region-back : (r : Region) → Narrow r → region-of (region-bytes r) 0 ≡ r
-region-back r n =
-    λ i. record { begin = number-bytes (r .begin) (n .begin) i; end = number-bytes (r .end) (n .end) i }
-
-domain-back :
-    (d : Domain) → Small d → domain-of (region-bytes (d .code) ++ (region-bytes (d .«data») ++ bytes (d .entry))) ≡ d
-domain-back d s =
-    λ i. record {
-      code = region-back (d .code) (s .code) i;
-      «data» = region-back (d .«data») (s .datas) i;
-      entry = number-bytes (d .entry) (s .entry) i;
-    }
-
-pub body-present :
-    (at size : ℕ) (rest : List ℕ) (go : List ℕ → List ℕ → Found) → size ≤ length rest
-    → body at size rest go ≡ go (take size rest) (drop size rest)
-body-present at size rest go h = rw (le-leb size (length rest) h)
 
 -- the reader at a domain record
 abbrev taken : ℕ → ℕ → Map → Domain → List ℕ → Found
@@ -91,6 +41,11 @@ domain-read room at q d rest s =
     body-present at 20 (region-bytes (d .code) ++ (region-bytes (d .«data») ++ (bytes (d .entry) ++ rest)))
     (λ b after. taken room at q (domain-of b) after) (omega arith)
     ∙ ap (λ (x : Domain). taken room at q x rest) (domain-back d s)
+
+pub domains-length : (m : Map) (i n : ℕ) → length (domain-records m i n) ≡ 21 * n
+unfolding domain-records
+domains-length m i zero = refl
+domains-length m i (suc n) = omega (arith, domains-length m (i + 1) n)
 
 -- ---- a verdict on a domain turns on what stands before it alone
 
@@ -199,3 +154,87 @@ domains-back m g s a (suc n) (suc room) at q r b e f =
     (sym (verdict-agrees m q (q .count) d b) ∙ v)
     ∙ domains-back m g s a n room (at + 21) (with-domain q d) (reading-more q r d (omega arith))
     (agree-more q r d (omega arith) m b refl) (omega arith) (omega arith)
+
+-- ---- domain records, read and written again
+
+-- what reading bs into q tells, where m and g are found: n more domains
+pub record Domained (q : Map) (bs : List ℕ) (m : Map) (g : Grid) : Type 0 where
+  pub n : ℕ
+  pub total : q .count + n ≡ m .count
+  pub some : 1 ≤ m .count
+  pub few : m .count ≤ most
+  pub agree : Agree (q .count) m q
+  pub reading : Reading m
+  pub each : (k : ℕ) → q .count ≤ k → k < m .count → domain-accepted m k
+  pub square : Square g
+  pub channels : (p : ℕ) → p < most * most → cell-good (m .count) g p ≡ true
+  pub spelt : domain-records m (q .count) n ++ (channel-records g 0 (most * most) ++ (5 ∷ [])) ≡ bs
+
+module _ (m : Map) (g : Grid) where
+  domains-end :
+      (at : ℕ) (q : Map) (bs : List ℕ) → Reading q → 1 ≤ q .count → q .count ≤ most
+      → channels-read at q 0 no-grid bs ≡ Found.whole m g → Domained q bs m g
+  unfolding domain-records
+  domains-end at q bs r some few e =
+      let c = channels-known q few m g at bs e in
+      rw (c .same)
+      record {
+        n = 0;
+        total = omega arith;
+        some = some;
+        few = few;
+        agree = record { length = refl; kernel = refl; before = λ k h. refl };
+        reading = r;
+        each = λ k h l. absurd (omega arith);
+        square = c .square;
+        channels = λ p h. c .good p (omega arith) h;
+        spelt = c .spelt;
+      }
+
+  domains-more :
+      (q : Map) (d : Domain) (rest bs : List ℕ) → Reading q → q .count < most → domain-verdict q (q .count) d ≡ Verdict.Accepted
+      → domain-record d ++ rest ≡ bs → Domained (with-domain q d) rest m g → Domained q bs m g
+  unfolding domain-records
+  domains-more q d rest bs r room v e c =
+      let here : getD (m .domains) (q .count) absent ≡ d = c .agree .before (q .count) (omega arith) ∙ there q r d room in
+      let agree : Agree (q .count) m q = record {
+        length = c .agree .length;
+        kernel = c .agree .kernel;
+        before = λ k h. c .agree .before k (omega arith) ∙ elsewhere q r d room k (omega arith);
+      } in
+      record {
+        n = suc (c .n);
+        total = omega (arith, c .total);
+        some = c .some;
+        few = c .few;
+        agree = agree;
+        reading = c .reading;
+        each = λ k h l. by-bool (ltb (q .count) k)
+            (λ t. c .each k (omega (arith, ltb-true (q .count) k t)) l)
+            (λ t. let x : k ≡ q .count = omega (arith, ltb-false (q .count) k t) in
+            rw (x, here) (verdict-agrees m q (q .count) d agree ∙ v));
+        square = c .square;
+        channels = c .channels;
+        spelt = ap (λ (x : Domain). domain-record x ++ (domain-records m (q .count + 1) (c .n) ++ (channel-records g 0 (most * most) ++ (5 ∷ [])))) here
+            ∙ ap (λ (x : List ℕ). domain-record d ++ x) (c .spelt) ∙ e;
+      }
+
+  pub domains-known :
+      (room at : ℕ) (q : Map) (bs : List ℕ) → Octets bs → Reading q → q .count + room ≡ most
+      → domains-read room at q bs ≡ Found.whole m g → Domained q bs m g
+  unfolding domains-read
+  domains-known zero at q bs o r h e = domains-end at q bs r (omega arith) (omega arith) e
+  domains-known (suc room) at q [] o r h e = not-refused Refusal.Short at m g e
+  domains-known (suc room) at q (k ∷ rest) o r h e =
+      by-bool (eqb k 3)
+      (λ t.
+      let b = body-known at 20 rest (λ b after. taken room at q (domain-of b) after) m g (rw t at e) in
+      let d = domain-of (take 20 rest) in
+      let j = judged-known at (domain-verdict q (q .count) d) (domains-read room (at + 21) (with-domain q d) (drop 20 rest)) m g (b .1) in
+      domains-more q d (drop 20 rest) (k ∷ rest) r (omega arith) (j .0)
+      (rw (eqb-true k 3 t) (domain-spelt rest (λ i. o (suc i)) (b .0)))
+      (domains-known room (at + 21) (with-domain q d) (drop 20 rest) (octets-drop 20 rest (λ i. o (suc i)))
+      (reading-more q r d (omega arith)) (omega arith) (j .1)))
+      (λ t. by-bool (eqb (q .count) 0)
+      (λ z. not-refused Refusal.Kind at m g (rw (t, z) at e))
+      (λ z. domains-end at q (k ∷ rest) r (omega (arith, eqb-false (q .count) 0 z)) (omega arith) (rw (t, z) at e)))
