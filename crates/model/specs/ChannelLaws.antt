@@ -1,26 +1,30 @@
 -- Laws of Sheet: channel records.
 --     channels-length       how many bytes they are
+--     not-refused, judged-known   what a whole reading tells of its parts
 --     channels-back         written and read back, they give the grid that they were written from
 --     channels-known        what a reading of them tells: written again, they are the bytes that were read
 -- Assumes nothing.
-use Prim.Native.Nat.{ℕ, zero, suc, _+_, _-_, _*_, _/_, _%_, _≤_, _<_}
+use Prim.Native.Nat.{ℕ, zero, suc, _+_, _-_, _*_, _≤_, _<_}
 use mathlib.Core.Path.{_≡_, refl, sym, ap, _∙_}
-use mathlib.Core.Bool.{Bool, true, false, _&&_, _||_, not}
+use mathlib.Core.Bool.{true, false, _&&_, not}
 use mathlib.Core.List.{List, [], _∷_, _++_}
 use native.Mathlib.Omega.{arith}
 use lib.Dec.{leb, ltb, eqb}
 use lib.ListN.{length}
 use borrow.Author.Tests.{ltb-true, ltb-false, leb-true, le-leb, eqb-true}
-use Rattle.model.specs.Basics.{if_then_else_}
 use Rattle.model.specs.BasicsLaws.{by-bool, and-left, and-right, and-both}
 use Rattle.model.specs.Map.{most, Grid, no-grid, is-domain}
 use Rattle.model.specs.Refusals.{check, cell, from, to, is-channel}
 use Rattle.model.specs.RefusalsLaws.{check-true, cell-good}
 use Rattle.model.specs.Sheet.{Found, judged, four-or-five, place, rising, mark, channel-records, channels-read}
-use Rattle.model.specs.GridLaws.{Square, no-grid-square, no-grid-unmarked, Ends, Unmarked, marks, grid-equal, mark-square, mark-there, mark-elsewhere}
+use Rattle.model.specs.GridLaws.{Square, no-grid-square, no-grid-unmarked, Ends, Unmarked, marks, grid-equal, from-place, to-place, place-ends, mark-square, mark-there, mark-elsewhere}
 use Rattle.model.specs.declared.map.Map.{Map}
 use Rattle.model.specs.declared.refusal.Refusal.{Refusal}
 use Rattle.model.specs.declared.call.Verdict.{Verdict}
+
+-- what stands after the domains
+abbrev pub closing : Grid → List ℕ
+closing g = channel-records g 0 (most * most) ++ (5 ∷ [])
 
 pub channels-length : (g : Grid) (p n : ℕ) → length (channel-records g p n) ≡ 3 * marks g p n
 unfolding channel-records marks
@@ -34,9 +38,6 @@ channels-length g p (suc n) =
 record Partly (g acc : Grid) (p : ℕ) : Type 0 where
   below : (k : ℕ) → k < p → cell acc k ≡ cell g k
   above : Unmarked acc p (most * most)
-
-place-ends : (p : ℕ) → place (from p) (to p) ≡ p
-place-ends p = omega arith
 
 -- what holds below p and at p holds below p + 1
 pub one-more : {P : ℕ → Type 0} (p : ℕ) → ((k : ℕ) → k < p → P k) → P p → (k : ℕ) → k < p + 1 → P k
@@ -81,8 +82,7 @@ module _ (g : Grid) (s : Square g) (m : Map) (good : (k : ℕ) → k < most * mo
       (λ e. rw e
       (cells-back (p + 1) n at q acc (omega arith) (omega arith) t (partly-skip g acc p (omega arith) a e)))
 
-  pub channels-back :
-      (at : ℕ) → channels-read at m 0 no-grid (channel-records g 0 (most * most) ++ (5 ∷ [])) ≡ Found.whole m g
+  pub channels-back : (at : ℕ) → channels-read at m 0 no-grid (closing g) ≡ Found.whole m g
   channels-back at =
       cells-back 0 (most * most) at 0 no-grid refl (omega arith) no-grid-square
       (record { below = λ k b. absurd (omega arith); above = no-grid-unmarked })
@@ -143,10 +143,9 @@ module _ (m : Map) (few : m .count ≤ most) (m′ : Map) (g : Grid) where
         spelt = rw (skip acc p n (most * most) 0 (omega arith) (omega arith) void);
       }
 
-  ends-known : (p f t : ℕ) → rising (m .count) p f t ≡ true → Ends f t
-  ends-known p f t e =
-      let d : is-domain (m .count) f && is-domain (m .count) t ≡ true =
-      and-left _ (not (eqb f t)) (and-left (is-channel (m .count) f t) (leb p (place f t)) e) in
+  ends-known : (f t : ℕ) → is-channel (m .count) f t ≡ true → Ends f t
+  ends-known f t c =
+      let d = and-left (is-domain (m .count) f && is-domain (m .count) t) (not (eqb f t)) c in
       let a = and-left (is-domain (m .count) f) (is-domain (m .count) t) d in
       let b = and-right (is-domain (m .count) f) (is-domain (m .count) t) d in
       record {
@@ -156,39 +155,28 @@ module _ (m : Map) (few : m .count ≤ most) (m′ : Map) (g : Grid) where
         to-high = omega (arith, leb-true t (m .count) (and-right (leb 1 t) _ b));
       }
 
-  module _ (acc : Grid) (s : Square acc) (p f t : ℕ) (r : rising (m .count) p f t ≡ true) where
-    from-place : from (place f t) ≡ f
-    from-place = let e = ends-known p f t r in omega arith
-
-    to-place : to (place f t) ≡ t
-    to-place = let e = ends-known p f t r in omega arith
-
-    passed : p ≤ place f t
-    passed = leb-true _ _ (and-right (is-channel (m .count) f t) _ r)
-
-    marked-then :
-        (n n′ : ℕ) (rest : List ℕ) → p + n ≡ most * most → place f t + 1 + n′ ≡ most * most → Unmarked acc p (most * most)
-        → Channelled m (mark acc f t) (place f t + 1) n′ rest m′ g → Channelled m acc p n (4 ∷ f ∷ t ∷ rest) m′ g
-    unfolding channel-records
-    marked-then n n′ rest h h′ void c =
-        let e = ends-known p f t r in
-        let l = passed in
-        let there : cell g (place f t) ≡ true = c .below (place f t) (omega arith) ∙ mark-there acc s f t e in
-        let before : (k : ℕ) → k < place f t → cell g k ≡ cell acc k =
-        λ k b. c .below k (omega arith) ∙ mark-elsewhere acc s f t e k (omega arith) in
-        let none : Unmarked g p (place f t) = λ k a b. before k b ∙ void k a (omega arith) in
-        record {
-          same = c .same;
-          square = c .square;
-          below = λ k b. before k (omega arith);
-          good = λ k a b. by-bool (ltb k (place f t + 1))
-              (λ q. one-more {P = λ k. p ≤ k → cell-good (m .count) g k ≡ true} (place f t) (λ k b a. rw (none k a b))
-              (λ a. rw (there, from-place, to-place) (and-left (is-channel (m .count) f t) (leb p (place f t)) r))
-              k (ltb-true k (place f t + 1) q) a)
-              (λ q. c .good k (ltb-false k (place f t + 1) q) b);
-          spelt = ap (λ (l : List ℕ). l ++ (5 ∷ [])) (skip g p n (place f t) (suc n′) (omega arith) l none)
-              ∙ rw (there, from-place, to-place) (ap (λ (l : List ℕ). 4 ∷ f ∷ t ∷ l) (c .spelt));
-        }
+  marked-then :
+      (acc : Grid) (p f t n n′ : ℕ) (rest : List ℕ) → Square acc → Unmarked acc p (most * most)
+      → is-channel (m .count) f t ≡ true → p ≤ place f t → p + n ≡ most * most → place f t + 1 + n′ ≡ most * most
+      → Channelled m (mark acc f t) (place f t + 1) n′ rest m′ g → Channelled m acc p n (4 ∷ f ∷ t ∷ rest) m′ g
+  unfolding channel-records
+  marked-then acc p f t n n′ rest s void x l h h′ c =
+      let e = ends-known f t x in
+      let there : cell g (place f t) ≡ true = c .below (place f t) (omega arith) ∙ mark-there acc s f t e in
+      let before : (k : ℕ) → k < place f t → cell g k ≡ cell acc k =
+      λ k b. c .below k (omega arith) ∙ mark-elsewhere acc s f t e k (omega arith) in
+      let none : Unmarked g p (place f t) = λ k a b. before k b ∙ void k a (omega arith) in
+      record {
+        same = c .same;
+        square = c .square;
+        below = λ k b. before k (omega arith);
+        good = λ k a b. by-bool (ltb k (place f t + 1))
+            (λ q. one-more {P = λ k. p ≤ k → cell-good (m .count) g k ≡ true} (place f t) (λ k b a. rw (none k a b))
+            (λ a. rw (there, from-place f t e, to-place f t e) x) k (ltb-true k (place f t + 1) q) a)
+            (λ q. c .good k (ltb-false k (place f t + 1) q) b);
+        spelt = ap (λ (l : List ℕ). l ++ (5 ∷ [])) (skip g p n (place f t) (suc n′) (omega arith) l none)
+            ∙ rw (there, from-place f t e, to-place f t e) (ap (λ (l : List ℕ). 4 ∷ f ∷ t ∷ l) (c .spelt));
+      }
 
   cells-known :
       (at p n : ℕ) (acc : Grid) (bs : List ℕ) → p + n ≡ most * most → Square acc → Unmarked acc p (most * most)
@@ -205,13 +193,15 @@ module _ (m : Map) (few : m .count ≤ most) (m′ : Map) (g : Grid) where
       (λ q w.
       let j = judged-known at (check (rising (m .count) p f t) Refusal.Channel)
       (channels-read (at + 3) m (place f t + 1) (mark acc f t) rest) m′ g w in
-      let r = check-true _ Refusal.Channel (j .0) in
-      let x = ends-known p f t r in
+      let r = check-true (rising (m .count) p f t) Refusal.Channel (j .0) in
+      let c = and-left (is-channel (m .count) f t) (leb p (place f t)) r in
+      let l = leb-true p (place f t) (and-right (is-channel (m .count) f t) _ r) in
+      let x = ends-known f t c in
+      let n′ = most * most - (place f t + 1) in
       rw q
-      (marked-then acc s p f t r n (most * most - (place f t + 1)) rest h (omega arith) void
-      (cells-known (at + 3) (place f t + 1) (most * most - (place f t + 1)) (mark acc f t) rest (omega arith)
-      (mark-square acc s f t x)
-      (λ i a b. mark-elsewhere acc s f t x i (omega arith) ∙ void i (omega (arith, passed acc s p f t r)) b) (j .1))))
+      (marked-then acc p f t n n′ rest s void c l h (omega arith)
+      (cells-known (at + 3) (place f t + 1) n′ (mark acc f t) rest (omega arith) (mark-square acc s f t x)
+      (λ k a b. mark-elsewhere acc s f t x k (omega arith) ∙ void k (omega arith) b) (j .1))))
       (λ q w. not-refused Refusal.Trailing (at + 1) m′ g w)
 
   pub channels-known :

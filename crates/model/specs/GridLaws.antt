@@ -2,6 +2,7 @@
 --     Shaped                what the array types give of a map and a grid; Square is the grid's part
 --     channel-count         the number of marked cells
 --     grid-equal            two grids with the same cells are equal
+--     from-place, to-place, place-ends   a cell's place and its two ends
 --     mark-there, mark-elsewhere   what a mark changes
 -- Assumes nothing.
 use Prim.Native.Nat.{ℕ, zero, suc, _+_, _-_, _*_, _/_, _%_, _≤_, _<_}
@@ -17,7 +18,7 @@ use borrow.Author.Tests.{eqb-true, eqb-false}
 use Rattle.model.specs.Basics.{if_then_else_}
 use Rattle.model.specs.BasicsLaws.{by-bool}
 use Rattle.model.specs.Map.{most, Grid, no-grid, marked}
-use Rattle.model.specs.Refusals.{cell}
+use Rattle.model.specs.Refusals.{cell, from, to}
 use Rattle.model.specs.Sheet.{place, mark}
 use Rattle.model.specs.declared.map.Map.{Map}
 
@@ -81,6 +82,15 @@ pub record Ends (f t : ℕ) : Type 0 where
   pub from-high : f ≤ most
   pub to-low : 1 ≤ t
   pub to-high : t ≤ most
+
+pub from-place : (f t : ℕ) → Ends f t → from (place f t) ≡ f
+from-place f t e = omega arith
+
+pub to-place : (f t : ℕ) → Ends f t → to (place f t) ≡ t
+to-place f t e = omega arith
+
+pub place-ends : (p : ℕ) → place (from p) (to p) ≡ p
+place-ends p = omega arith
 
 module _ (g : Grid) (s : Square g) (f t : ℕ) (e : Ends f t) where
   row : getD (mark g f t) (f - 1) [] ≡ set (getD g (f - 1) []) (t - 1) true

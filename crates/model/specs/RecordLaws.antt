@@ -4,17 +4,17 @@
 --     length-spelt, kernel-spelt, domain-spelt   a record read and written again
 --     body-present, body-known, record-known     what the reader does where a body is there, and what it tells
 -- Assumes nothing.
-use Prim.Native.Nat.{ℕ, zero, suc, _+_, _^_, _≤_, _<_}
-use mathlib.Core.Path.{_≡_, refl, ap, _∙_}
-use mathlib.Core.Bool.{Bool, true, false, _&&_, not}
+use Prim.Native.Nat.{ℕ, suc, _+_, _^_, _≤_, _<_}
+use mathlib.Core.Path.{_≡_, ap, _∙_}
+use mathlib.Core.Bool.{true, _&&_, not}
 use mathlib.Core.List.{List, [], _∷_, _++_}
 use native.Mathlib.Numerals.{add-one, add-two, add-three, add-four}
 use native.Mathlib.Omega.{arith}
-use lib.Dec.{leb, ltb, eqb}
+use lib.Dec.{leb, eqb}
 use lib.ListN.{length, getD, take, drop}
 use lib.Seq.{getD-take, getD-drop, drop-cons}
 use borrow.Author.Tests.{ltb-true, leb-true, le-leb, eqb-true}
-use Rattle.model.specs.Basics.{if_then_else_, bytes, number}
+use Rattle.model.specs.Basics.{bytes, number}
 use Rattle.model.specs.BasicsLaws.{by-bool, and-left, and-right, number-bytes, bytes-number}
 use Rattle.model.specs.Map.{Grid, inside, overlaps}
 use Rattle.model.specs.Refusals.{check, _▸_, within, clear, domain-verdict}
@@ -92,7 +92,8 @@ octets-drop n s o i = rw getD-drop (o (n + i))
 
 number-take : (n : ℕ) (l : List ℕ) (i : ℕ) → i + 3 < n → number (take n l) i ≡ number l i
 number-take n l i h =
-    rw (getD-take n l i 0 (omega arith), getD-take n l (i + 1) 0 (omega arith), getD-take n l (i + 2) 0 (omega arith), getD-take n l (i + 3) 0 (omega arith))
+    rw (getD-take n l i 0 (omega arith), getD-take n l (i + 1) 0 (omega arith))
+    (rw (getD-take n l (i + 2) 0 (omega arith), getD-take n l (i + 3) 0 (omega arith)))
 
 region-take : (n : ℕ) (l : List ℕ) (i : ℕ) → i + 7 < n → region-of (take n l) i ≡ region-of l i
 region-take n l i h =

@@ -4,24 +4,24 @@
 --     domains-back          written and read back with what follows, they give the map and the grid
 --     domains-known         what a reading of them tells: written again, they are the bytes that were read
 -- Assumes nothing.
-use Prim.Native.Nat.{ℕ, zero, suc, _+_, _-_, _*_, _≤_, _<_}
+use Prim.Native.Nat.{ℕ, zero, suc, _+_, _*_, _≤_, _<_}
 use mathlib.Core.Path.{_≡_, refl, sym, ap, _∙_}
 use mathlib.Core.Logic.{_≢_}
-use mathlib.Core.Bool.{Bool, true, false, _&&_, not}
+use mathlib.Core.Bool.{true, _&&_, not}
 use mathlib.Core.List.{List, [], _∷_, _++_}
 use native.Mathlib.Omega.{arith}
 use lib.Dec.{ltb, eqb}
 use lib.ListN.{length, getD, take, drop, length-set}
 use lib.Seq.{getD-set-same, getD-set-other, ext-getD}
 use borrow.Author.Tests.{ltb-true, ltb-false, eqb-true, eqb-false, ne-eqb}
-use Rattle.model.specs.Basics.{if_then_else_, bytes}
+use Rattle.model.specs.Basics.{bytes}
 use Rattle.model.specs.BasicsLaws.{by-bool, and-left, and-right}
 use Rattle.model.specs.Map.{most, nowhere, absent, Grid, no-grid, overlaps}
 use Rattle.model.specs.Refusals.{clear, zero-region, zero-domain, domain-verdict, cell}
 use Rattle.model.specs.RefusalsLaws.{domain-accepted, cell-good, entry-good, Acceptable}
 use Rattle.model.specs.Sheet.{Found, judged, region-bytes, domain-record, domain-of, with-domain, domain-records, domains-read, channel-records, channels-read}
 use Rattle.model.specs.GridLaws.{Square, Shaped, square}
-use Rattle.model.specs.ChannelLaws.{one-more, not-refused, judged-known, channels-back, channels-known}
+use Rattle.model.specs.ChannelLaws.{closing, one-more, not-refused, judged-known, channels-back, channels-known}
 use Rattle.model.specs.RecordLaws.{Small, verdict-small, domain-back, body-present, body-known, Octets, octets-drop, domain-spelt}
 use Rattle.model.specs.declared.map.Region.{Region}
 use Rattle.model.specs.declared.map.Domain.{Domain}
@@ -112,6 +112,11 @@ zero-absent d e =
       entry = eqb-true (d .entry) 0 (and-right (zero-region (d .code) && zero-region (d .«data»)) _ e) i;
     }
 
+pub entries-good : (m : Map) → Reading m → (k : ℕ) → k < most → entry-good m k ≡ true
+unfolding zero-domain
+entries-good m r k h =
+    by-bool (ltb k (m .count)) (λ t. rw t) (λ t. rw (t, r .after k (ltb-false k (m .count) t) h))
+
 whole-read :
     (m q : Map) → Reading q → Agree (q .count) m q → q .count ≡ m .count → length (m .domains) ≡ most
     → ((k : ℕ) → k < most → entry-good m k ≡ true) → q ≡ m
@@ -139,7 +144,7 @@ tail-read (suc room) at q g p (suc n) h =
 pub domains-back :
     (m : Map) (g : Grid) → Shaped m g → Acceptable m g → (n room at : ℕ) (q : Map) → Reading q → Agree (q .count) m q
     → q .count + n ≡ m .count → q .count + room ≡ most
-    → domains-read room at q (domain-records m (q .count) n ++ (channel-records g 0 (most * most) ++ (5 ∷ []))) ≡ Found.whole m g
+    → domains-read room at q (domain-records m (q .count) n ++ closing g) ≡ Found.whole m g
 unfolding domain-records
 domains-back m g s a zero room at q r b e f =
     rw (whole-read m q r b (omega arith) (s .domains) (a .unused))
@@ -148,7 +153,7 @@ domains-back m g s a (suc n) zero at q r b e f = absurd (omega (arith, a .few))
 domains-back m g s a (suc n) (suc room) at q r b e f =
     let d = getD (m .domains) (q .count) absent in
     let v = a .each (q .count) (omega arith) in
-    let rest = domain-records m (q .count + 1) n ++ (channel-records g 0 (most * most) ++ (5 ∷ [])) in
+    let rest = domain-records m (q .count + 1) n ++ closing g in
     domain-read room at q d rest (verdict-small m (q .count) d (a .short) v)
     ∙ ap (λ (w : Verdict). judged at w (domains-read room (at + 21) (with-domain q d) rest))
     (sym (verdict-agrees m q (q .count) d b) ∙ v)
@@ -168,7 +173,7 @@ pub record Domained (q : Map) (bs : List ℕ) (m : Map) (g : Grid) : Type 0 wher
   pub each : (k : ℕ) → q .count ≤ k → k < m .count → domain-accepted m k
   pub square : Square g
   pub channels : (p : ℕ) → p < most * most → cell-good (m .count) g p ≡ true
-  pub spelt : domain-records m (q .count) n ++ (channel-records g 0 (most * most) ++ (5 ∷ [])) ≡ bs
+  pub spelt : domain-records m (q .count) n ++ closing g ≡ bs
 
 module _ (m : Map) (g : Grid) where
   domains-end :
@@ -215,7 +220,7 @@ module _ (m : Map) (g : Grid) where
             rw (x, here) (verdict-agrees m q (q .count) d agree ∙ v));
         square = c .square;
         channels = c .channels;
-        spelt = ap (λ (x : Domain). domain-record x ++ (domain-records m (q .count + 1) (c .n) ++ (channel-records g 0 (most * most) ++ (5 ∷ [])))) here
+        spelt = ap (λ (x : Domain). domain-record x ++ (domain-records m (q .count + 1) (c .n) ++ closing g)) here
             ∙ ap (λ (x : List ℕ). domain-record d ++ x) (c .spelt) ∙ e;
       }
 

@@ -1,26 +1,26 @@
 -- Document 01, "The sheet": writing and reading undo each other, and a sheet's length.
 --     read-after-write      an acceptable map and grid come back whole
---     write-after-read      whatever reads whole is acceptable, and is the only sheet of its map and grid
+--     write-after-read      bytes that read whole are the sheet of what they read as, and that is acceptable
 --     sheet-length          15 + 21N + 3G bytes
 -- Assumes nothing.
-use Prim.Native.Nat.{ℕ, zero, suc, _+_, _*_, _^_, _≤_, _<_}
+use Prim.Native.Nat.{ℕ, suc, _+_, _*_, _<_}
 use mathlib.Core.Path.{_≡_, refl, sym, ap, _∙_}
-use mathlib.Core.Bool.{Bool, true, false, _||_}
-use mathlib.Core.List.{List, [], _∷_, _++_}
+use mathlib.Core.Bool.{true}
+use mathlib.Core.List.{List, _++_}
 use native.Mathlib.Omega.{arith}
-use lib.Dec.{leb, ltb}
+use lib.Dec.{leb}
 use lib.ListN.{length, getD, take, drop, getD-replicate, length-append}
-use borrow.Author.Tests.{ltb-true, ltb-false, lt-ltb, leb-true, le-leb}
+use borrow.Author.Tests.{leb-true, le-leb}
 use Rattle.model.specs.Basics.{bytes, number}
-use Rattle.model.specs.BasicsLaws.{by-bool, and-left, and-right, and-both, number-bytes}
+use Rattle.model.specs.BasicsLaws.{and-left, and-right, and-both, number-bytes}
 use Rattle.model.specs.Map.{most, absent, Grid}
-use Rattle.model.specs.Refusals.{check, zero-domain, sized, within, accepts}
-use Rattle.model.specs.RefusalsLaws.{check-true, entry-good, Acceptable, acceptable, accept}
-use Rattle.model.specs.Sheet.{Found, judged, one-record, length-record, region-bytes, kernel-record, region-of, beginning-map, domain-records, domains-read, channel-records, sheet-bytes, sheet-read}
+use Rattle.model.specs.Refusals.{check, sized, within, accepts}
+use Rattle.model.specs.RefusalsLaws.{check-true, Acceptable, acceptable, accept}
+use Rattle.model.specs.Sheet.{Found, judged, one-record, length-record, region-bytes, kernel-record, region-of, beginning-map, domain-records, domains-read, sheet-bytes, sheet-read}
 use Rattle.model.specs.GridLaws.{Shaped, channel-count}
-use Rattle.model.specs.ChannelLaws.{judged-known, channels-length}
+use Rattle.model.specs.ChannelLaws.{closing, judged-known, channels-length}
 use Rattle.model.specs.RecordLaws.{within-narrow, region-back, body-present, record-known, Octets, octets-drop, length-spelt, kernel-spelt}
-use Rattle.model.specs.SheetLaws.{Agree, Reading, domains-length, domains-back, Domained, domains-known}
+use Rattle.model.specs.SheetLaws.{Reading, entries-good, domains-length, domains-back, Domained, domains-known}
 use Rattle.model.specs.declared.map.Region.{Region}
 use Rattle.model.specs.declared.map.Map.{Map}
 use Rattle.model.specs.declared.refusal.Refusal.{Refusal}
@@ -28,10 +28,9 @@ use Rattle.model.specs.declared.call.Verdict.{Verdict}
 
 pub sheet-length : (m : Map) (g : Grid) → length (sheet-bytes m g) ≡ 15 + 21 * m .count + 3 * channel-count g
 unfolding sheet-bytes channel-count
-sheet-length m g =
-    simp (length-append, domains-length, channels-length) (omega arith)
+sheet-length m g = simp (length-append, domains-length, channels-length) (omega arith)
 
--- the reader after the length, and after the kernel
+-- the reader after the kernel's numbers, and after the length
 abbrev after-kernel : ℕ → Region → List ℕ → Found
 after-kernel n r rest = judged 5 (check (within n r) Refusal.Bounds) (domains-read most 14 (beginning-map n r) rest)
 
@@ -47,7 +46,7 @@ pub read-after-write :
 unfolding sheet-bytes sheet-read
 read-after-write m g s e =
     let a = acceptable m g e in
-    let domains = domain-records m 0 (m .count) ++ (channel-records g 0 (most * most) ++ (5 ∷ [])) in
+    let domains = domain-records m 0 (m .count) ++ closing g in
     let rest = kernel-record (m .kernel) ++ domains in
     let long : sized (m .length) ≡ true = and-both (le-leb 256 (m .length) (a .long)) (le-leb (m .length) 65536 (a .short)) in
     body-present 0 4 (bytes (m .length) ++ rest) (λ b rest. after-length (number b 0) rest) (omega arith)
@@ -59,13 +58,6 @@ read-after-write m g s e =
     ∙ rw (a .kernel)
     (domains-back m g s a (m .count) most 14 (beginning-map (m .length) (m .kernel)) (beginning (m .length) (m .kernel))
     (record { length = refl; kernel = refl; before = λ k h. absurd (omega arith) }) (omega arith) (omega arith))
-
--- an entry that is absent where the count is passed is good
-entries-good : (m : Map) → Reading m → (k : ℕ) → k < most → entry-good m k ≡ true
-unfolding zero-domain
-entries-good m r k h =
-    by-bool (ltb k (m .count)) (λ t. rw t)
-    (λ t. rw (t, r .after k (ltb-false k (m .count) t) h))
 
 module _ (m : Map) (g : Grid) (n : ℕ) (r : Region) (tail : List ℕ) (d : Domained (beginning-map n r) tail m g) where
   read-acceptable : sized n ≡ true → within n r ≡ true → Acceptable m g
@@ -85,8 +77,7 @@ module _ (m : Map) (g : Grid) (n : ℕ) (r : Region) (tail : List ℕ) (d : Doma
   unfolding sheet-bytes
   read-spelt =
       let c : m .count ≡ d .n = omega (arith, d .total) in
-      ap (λ (k : ℕ). length-record (m .length)
-      ++ (kernel-record (m .kernel) ++ (domain-records m 0 k ++ (channel-records g 0 (most * most) ++ (5 ∷ []))))) c
+      ap (λ (k : ℕ). length-record (m .length) ++ (kernel-record (m .kernel) ++ (domain-records m 0 k ++ closing g))) c
       ∙ ap (λ (x : List ℕ). length-record (m .length) ++ (kernel-record (m .kernel) ++ x)) (d .spelt)
       ∙ ap (λ (x : Region). length-record (m .length) ++ (kernel-record x ++ tail)) (d .agree .kernel)
       ∙ ap (λ (x : ℕ). length-record x ++ (kernel-record r ++ tail)) (d .agree .length)
