@@ -5,6 +5,10 @@ pub mod MapLaws
 pub mod Refusals
 pub mod RefusalsLaws
 pub mod Sheet
+pub mod GridLaws
+pub mod ChannelLaws
+pub mod RecordLaws
+pub mod SheetLaws
 pub mod States
 pub mod Table
 pub mod Instructions
