@@ -1,6 +1,6 @@
 -- Laws of the grid: its shape, its cells and its marks.
 --     Shaped                what the array types give of a map and a grid; Square is the grid's part
---     channel-count         the number of marked cells
+--     channel-count         the number of marked cells; channel-most: at most 56
 --     grid-equal            two grids with the same cells are equal
 --     from-place, to-place, place-ends   a cell's place and its two ends
 --     mark-there, mark-elsewhere   what a mark changes
@@ -8,17 +8,18 @@
 use Prim.Native.Nat.{ℕ, zero, suc, _+_, _-_, _*_, _/_, _%_, _≤_, _<_}
 use mathlib.Core.Path.{_≡_, refl, sym, ap, _∙_}
 use mathlib.Core.Logic.{_≢_}
-use mathlib.Core.Bool.{Bool, true, false}
+use mathlib.Core.Bool.{Bool, true, false, _&&_, not}
 use mathlib.Core.List.{List, []}
 use native.Mathlib.Omega.{arith}
 use lib.Dec.{eqb}
 use lib.ListN.{length, getD, set, replicate, length-set, getD-replicate}
 use lib.Seq.{getD-set-same, getD-set-other, ext-getD}
-use borrow.Author.Tests.{eqb-true, eqb-false}
+use borrow.Author.Tests.{eqb-true, eqb-false, not-true}
 use Rattle.model.specs.Basics.{if_then_else_}
-use Rattle.model.specs.BasicsLaws.{by-bool}
-use Rattle.model.specs.Map.{most, Grid, no-grid, marked}
+use Rattle.model.specs.BasicsLaws.{by-bool, and-right}
+use Rattle.model.specs.Map.{most, Grid, no-grid, marked, is-domain}
 use Rattle.model.specs.Refusals.{cell, from, to}
+use Rattle.model.specs.RefusalsLaws.{cell-good}
 use Rattle.model.specs.Sheet.{place, mark}
 use Rattle.model.specs.declared.map.Map.{Map}
 
@@ -41,6 +42,29 @@ marks g p (suc n) = let rest = marks g (p + 1) n in if cell g p then suc rest el
 
 unfoldable pub channel-count : Grid → ℕ
 channel-count g = marks g 0 (most * most)
+
+-- a domain has no channel to itself, so a good grid has no more marks than it has cells off the diagonal
+unfoldable pub pairs : ℕ → ℕ → ℕ
+pairs p zero = 0
+pairs p (suc n) = let rest = pairs (p + 1) n in if eqb (from p) (to p) then rest else suc rest
+
+marks-pairs :
+    (count : ℕ) (g : Grid) (p n : ℕ) → ((k : ℕ) → p ≤ k → k < p + n → cell-good count g k ≡ true) → marks g p n ≤ pairs p n
+unfolding marks pairs
+marks-pairs count g p zero good = omega arith
+marks-pairs count g p (suc n) good =
+    let rest = marks-pairs count g (p + 1) n (λ k a b. good k (omega arith) (omega arith)) in
+    by-bool (cell g p)
+    (λ e.
+    let c = rw e at (good p (omega arith) (omega arith)) in
+    let d = and-right (is-domain count (from p) && is-domain count (to p)) (not (eqb (from p) (to p))) c in
+    rw (e, not-true (eqb (from p) (to p)) d) (omega arith))
+    (λ e. by-bool (eqb (from p) (to p)) (λ d. rw (e, d) rest) (λ d. rw (e, d) (omega arith)))
+
+pub channel-most :
+    (count : ℕ) (g : Grid) → ((k : ℕ) → k < most * most → cell-good count g k ≡ true) → channel-count g ≤ 56
+unfolding channel-count pairs
+channel-most count g good = marks-pairs count g 0 (most * most) (λ k a b. good k b)
 
 -- ---- cells
 

@@ -6,19 +6,20 @@
 -- Assumes nothing.
 use Prim.Native.Nat.{ℕ, suc, _+_, _^_, _≤_, _<_}
 use mathlib.Core.Path.{_≡_, ap, _∙_}
-use mathlib.Core.Bool.{true, _&&_, not}
+use mathlib.Core.Bool.{true}
 use mathlib.Core.List.{List, [], _∷_, _++_}
 use native.Mathlib.Numerals.{add-one, add-two, add-three, add-four}
 use native.Mathlib.Omega.{arith}
 use lib.Dec.{leb, eqb}
 use lib.ListN.{length, getD, take, drop}
 use lib.Seq.{getD-take, getD-drop, drop-cons}
-use borrow.Author.Tests.{ltb-true, leb-true, le-leb, eqb-true}
+use borrow.Author.Tests.{leb-true, le-leb, eqb-true}
 use Rattle.model.specs.Basics.{bytes, number}
 use Rattle.model.specs.BasicsLaws.{by-bool, and-left, and-right, number-bytes, bytes-number}
-use Rattle.model.specs.Map.{Grid, inside, overlaps}
-use Rattle.model.specs.Refusals.{check, _▸_, within, clear, domain-verdict}
-use Rattle.model.specs.RefusalsLaws.{check-true, then-left, then-right}
+use Rattle.model.specs.Map.{Grid}
+use Rattle.model.specs.MapLaws.{inside-below}
+use Rattle.model.specs.Refusals.{within, domain-verdict}
+use Rattle.model.specs.RefusalsLaws.{placed}
 use Rattle.model.specs.Sheet.{Found, body, one-record, region-bytes, length-record, kernel-record, domain-record, region-of, domain-of}
 use Rattle.model.specs.ChannelLaws.{not-refused}
 use Rattle.model.specs.declared.map.Region.{Region}
@@ -41,25 +42,17 @@ within-narrow n r h e =
 
 pub record Small (d : Domain) : Type 0 where
   pub code : Narrow (d .code)
-  pub datas : Narrow (d .«data»)
+  pub «data» : Narrow (d .«data»)
   pub entry : d .entry < 2 ^ 32
 
 pub verdict-small : (m : Map) (i : ℕ) (d : Domain) → m .length ≤ 65536 → domain-verdict m i d ≡ Verdict.Accepted → Small d
-unfolding domain-verdict
 verdict-small m i d h e =
-    let v₃ = check (clear m (d .code) i) Refusal.Overlap
-    ▸ check (clear m (d .«data») i && not (overlaps (d .«data») (d .code))) Refusal.Overlap in
-    let v₂ = check (inside (d .code) (d .entry)) Refusal.Entry ▸ v₃ in
-    let v₁ = check (within (m .length) (d .«data»)) Refusal.Bounds ▸ v₂ in
-    let b = then-right (check (within (m .length) (d .code)) Refusal.Bounds) v₁ e in
-    let c = then-right (check (within (m .length) (d .«data»)) Refusal.Bounds) v₂ b in
-    let n = within-narrow (m .length) (d .code) h (check-true _ Refusal.Bounds (then-left _ v₁ e)) in
-    let x = check-true (inside (d .code) (d .entry)) Refusal.Entry (then-left _ v₃ c) in
-    let y = ltb-true (d .entry) (d .code .end) (and-right (leb (d .code .begin) (d .entry)) _ x) in
+    let p = placed m i d e in
+    let n = within-narrow (m .length) (d .code) h (p .code) in
     record {
       code = n;
-      datas = within-narrow (m .length) (d .«data») h (check-true _ Refusal.Bounds (then-left _ v₂ b));
-      entry = omega arith;
+      «data» = within-narrow (m .length) (d .«data») h (p .«data»);
+      entry = omega (arith, inside-below (d .code) (d .entry) (p .entry), n .end);
     }
 
 -- ---- a record written and read back
@@ -73,7 +66,7 @@ pub domain-back :
 domain-back d s =
     λ i. record {
       code = region-back (d .code) (s .code) i;
-      «data» = region-back (d .«data») (s .datas) i;
+      «data» = region-back (d .«data») (s .«data») i;
       entry = number-bytes (d .entry) (s .entry) i;
     }
 

@@ -141,7 +141,7 @@ accept m g a =
 
 pub record Placed (m : Map) (i : ℕ) (d : Domain) : Type 0 where
   pub code : within (m .length) (d .code) ≡ true
-  pub held : within (m .length) (d .«data») ≡ true
+  pub «data» : within (m .length) (d .«data») ≡ true
   pub entry : inside (d .code) (d .entry) ≡ true
   pub code-clear : clear m (d .code) i ≡ true
   pub data-clear : clear m (d .«data») i ≡ true
@@ -160,7 +160,7 @@ placed m i d e =
     let f = check-true _ Refusal.Overlap (then-right (check (clear m (d .code) i) Refusal.Overlap) v₅ c) in
     record {
       code = check-true _ Refusal.Bounds (then-left _ v₂ e);
-      held = check-true _ Refusal.Bounds (then-left _ v₃ a);
+      «data» = check-true _ Refusal.Bounds (then-left _ v₃ a);
       entry = check-true _ Refusal.Entry (then-left _ v₄ b);
       code-clear = check-true _ Refusal.Overlap (then-left _ v₅ c);
       data-clear = and-left (clear m (d .«data») i) _ f;
@@ -171,7 +171,7 @@ pub place-domain : (m : Map) (i : ℕ) (d : Domain) → Placed m i d → domain-
 unfolding domain-verdict
 place-domain m i d p =
     check-both Refusal.Bounds (p .code)
-    (check-both Refusal.Bounds (p .held)
+    (check-both Refusal.Bounds (p .«data»)
     (check-both Refusal.Entry (p .entry)
     (check-both Refusal.Overlap (p .code-clear) (rw (p .data-clear, p .split)))))
 

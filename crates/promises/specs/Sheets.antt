@@ -1,9 +1,9 @@
 -- Document 01, "The sheet": writing and reading undo each other, and a sheet's length.
 --     read-after-write      an acceptable map and grid come back whole
 --     write-after-read      bytes that read whole are the sheet of what they read as, and that is acceptable
---     sheet-length          15 + 21N + 3G bytes
+--     sheet-length          15 + 21N + 3G bytes; sheet-bounds: 36 to 351
 -- Assumes nothing.
-use Prim.Native.Nat.{ℕ, suc, _+_, _*_, _<_}
+use Prim.Native.Nat.{ℕ, suc, _+_, _*_, _≤_, _<_}
 use mathlib.Core.Path.{_≡_, refl, sym, ap, _∙_}
 use mathlib.Core.Bool.{true}
 use mathlib.Core.List.{List, _++_}
@@ -17,7 +17,7 @@ use Rattle.model.specs.Map.{most, absent, Grid}
 use Rattle.model.specs.Refusals.{check, sized, within, accepts}
 use Rattle.model.specs.RefusalsLaws.{check-true, Acceptable, acceptable, accept}
 use Rattle.model.specs.Sheet.{Found, judged, one-record, length-record, region-bytes, kernel-record, region-of, beginning-map, domain-records, domains-read, sheet-bytes, sheet-read}
-use Rattle.model.specs.GridLaws.{Shaped, channel-count}
+use Rattle.model.specs.GridLaws.{Shaped, channel-count, channel-most}
 use Rattle.model.specs.ChannelLaws.{closing, judged-known, channels-length}
 use Rattle.model.specs.RecordLaws.{within-narrow, region-back, body-present, record-known, Octets, octets-drop, length-spelt, kernel-spelt}
 use Rattle.model.specs.SheetLaws.{Reading, entries-good, domains-length, domains-back, Domained, domains-known}
@@ -29,6 +29,14 @@ use Rattle.model.specs.declared.call.Verdict.{Verdict}
 pub sheet-length : (m : Map) (g : Grid) → length (sheet-bytes m g) ≡ 15 + 21 * m .count + 3 * channel-count g
 unfolding sheet-bytes channel-count
 sheet-length m g = simp (length-append, domains-length, channels-length) (omega arith)
+
+-- "36 to 351"
+pub sheet-bounds :
+    (m : Map) (g : Grid) → accepts m g ≡ Verdict.Accepted → (36 ≤ length (sheet-bytes m g)) × (length (sheet-bytes m g) ≤ 351)
+sheet-bounds m g e =
+    let a = acceptable m g e in
+    let c = channel-most (m .count) g (a .channels) in
+    rw sheet-length (omega (arith, a .some, a .few))
 
 -- the reader after the kernel's numbers, and after the length
 abbrev after-kernel : ℕ → Region → List ℕ → Found
