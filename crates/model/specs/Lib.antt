@@ -5,6 +5,7 @@ pub mod Refusals
 pub mod RefusalsLaws
 pub mod Sheet
 pub mod States
+pub mod StatesLaws
 pub mod Table
 pub mod Instructions
 pub mod Events
