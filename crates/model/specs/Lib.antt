@@ -8,6 +8,7 @@ pub mod States
 pub mod StatesLaws
 pub mod Table
 pub mod Instructions
+pub mod InstructionsLaws
 pub mod Events
 pub mod Calls
 pub mod Whole

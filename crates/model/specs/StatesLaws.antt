@@ -7,18 +7,21 @@
 use Prim.Native.Nat.{ℕ, zero, suc, _+_, _-_, _≤_, _<_}
 use mathlib.Core.Path.{_≡_, refl, sym, ap, _∙_, subst}
 use mathlib.Core.Logic.{_≢_}
+use mathlib.Core.List.{List}
 use mathlib.Core.Bool.{Bool, true, false, _&&_, _||_, not}
 use native.Mathlib.Omega.{arith}
 use native.Mathlib.Nat.{add-zero, zero-add, suc-add}
 use native.Mathlib.Numerals.{add-one}
 use lib.Dec.{leb, ltb, eqb}
-use lib.ListN.{length, getD, set, length-set}
+use lib.ListN.{length, getD, set, replicate, length-set, getD-replicate}
 use lib.Seq.{getD-set-same, getD-set-other}
 use borrow.Author.Tests.{ltb-true, ltb-false, leb-true, eqb-true, eqb-false, not-true, lt-ltb, le-ltb, le-leb, eq-eqb, ne-eqb}
 use Rattle.model.specs.Basics.{if_then_else_}
-use Rattle.model.specs.Map.{most}
+use Rattle.model.specs.Map.{most, absent}
 use Rattle.model.specs.BasicsLaws.{by-bool, and-left, and-right, and-both}
-use Rattle.model.specs.States.{blank, is-ready, context, put, with-active, ready, any-ready, active-good, context-good, is-blank, contexts-good, well-formed, after, first-ready, switch}
+use Rattle.model.specs.States.{full, blank, with-status, is-ready, is-waiting, woken, received, context, put, with-active, ready, at-entry, seated, start, any-ready, active-good, box-good, context-good, zeros, is-blank, contexts-good, well-formed, after, first-ready, switch}
+use Rattle.model.specs.declared.map.Map.{Map}
+use Rattle.model.specs.declared.state.Status.{Status}
 use Rattle.model.specs.declared.state.Context.{Context}
 use Rattle.model.specs.declared.state.State.{State}
 
@@ -141,22 +144,32 @@ pub formed : (count : ℕ) (s : State) → Good count s → well-formed count s 
 unfolding well-formed
 formed count s g = and-both (leads count s (g .led)) (holds count s (g .held))
 
--- ---- what keeps a state well formed
+-- ---- contexts that stay good
 
--- the fact on activity depends on who is ready alone, that on contexts on the contexts alone
-pub held-active : {count : ℕ} {s : State} (a : ℕ) → Held count s → Held count (with-active s a)
-held-active a g = record { present = g .present; past = g .past }
+-- a status other than waiting, or an empty box
+pub status-good :
+    (count : ℕ) (c : Context) (x : Status) → context-good count c ≡ true → is-waiting x && full (c .mailbox) ≡ false
+    → context-good count (with-status c x) ≡ true
+unfolding context-good
+status-good count c x g e = rw e (and-right (not (is-waiting (c .status) && full (c .mailbox))) _ g)
 
-pub held-put :
-    {count : ℕ} {s : State} (d : ℕ) (c : Context) → Held count s → length (s .contexts) ≡ most → 1 ≤ d → d ≤ count
-    → count ≤ most → context-good count c ≡ true → Held count (put s d c)
-held-put {count} {s} d c g n l h m e =
-    record {
-      present = λ k p q.
-          each-put (λ x. context-good count x ≡ true) s d k c l (omega arith) p (λ _. e) (λ _. g .present k p q);
-      past = λ k p q.
-          each-put (λ x. is-blank x ≡ true) s d k c l (omega arith) (omega arith) (λ f. absurd (omega arith)) (λ _. g .past k p q);
-    }
+woken-waiting : (x : Status) → is-waiting (woken x) ≡ false
+woken-waiting Status.Halted = refl
+woken-waiting Status.Ready = refl
+woken-waiting Status.Waiting = refl
+woken-waiting (Status.Faulted r) = refl
+
+pub received-good : (count : ℕ) (c : Context) (w from : ℕ) → from ≤ count → context-good count (received c w from) ≡ true
+unfolding context-good box-good
+received-good count c w from h = rw (woken-waiting (c .status), le-leb from count h)
+
+pub woken-ready : (x : Status) → is-ready x ≡ true → is-ready (woken x) ≡ true
+woken-ready Status.Halted e = e
+woken-ready Status.Ready e = e
+woken-ready Status.Waiting e = refl
+woken-ready (Status.Faulted r) e = e
+
+-- ---- readiness after a context is put
 
 pub ready-put :
     (v : Bool) (s : State) (d e : ℕ) (c : Context) → 1 ≤ d → d ≤ length (s .contexts) → 1 ≤ e → ready s e ≡ v
@@ -275,4 +288,118 @@ switch-led count s h a =
       active = found-within count s count (s .active) h;
       idle = λ z d l k. by-bool (ready s d) (λ t. absurd (omega (arith, found-some count s (s .active) d a l k t))) (λ t. t);
       runs = λ l. found-ready count s count (s .active) l;
+    }
+
+-- ---- what keeps a state well formed
+
+-- what a state keeps while an event changes it, and what it has between events
+pub record Shaped (count : ℕ) (s : State) : Type 0 where
+  pub some : 1 ≤ count
+  pub few : count ≤ most
+  pub long : length (s .contexts) ≡ most
+  pub held : Held count s
+
+pub record Sound (count : ℕ) (s : State) : Type 0 where
+  pub shaped : Shaped count s
+  pub led : Led count s
+
+pub sound :
+    {count : ℕ} {s : State} → 1 ≤ count → count ≤ most → length (s .contexts) ≡ most → well-formed count s ≡ true → Sound count s
+sound {count} {s} a b n e =
+    let g = good count s e b in record { shaped = record { some = a; few = b; long = n; held = g .held }; led = g .led }
+
+pub sound-formed : {count : ℕ} {s : State} → Sound count s → well-formed count s ≡ true
+sound-formed {count} {s} h = formed count s (record { led = h .led; held = h .shaped .held })
+
+-- contexts do not depend on who is active
+shaped-active : {count : ℕ} {s : State} (a : ℕ) → Shaped count s → Shaped count (with-active s a)
+shaped-active a h =
+    record { some = h .some; few = h .few; long = h .long; held = record { present = h .held .present; past = h .held .past } }
+
+pub shaped-put :
+    {count : ℕ} {s : State} (d : ℕ) (c : Context) → Shaped count s → 1 ≤ d → d ≤ count → context-good count c ≡ true
+    → Shaped count (put s d c)
+shaped-put {count} {s} d c h l k e =
+    record {
+      some = h .some;
+      few = h .few;
+      long = length-set (s .contexts) (d - 1) c ∙ h .long;
+      held = record {
+        present = λ n p q.
+            each-put (λ x. context-good count x ≡ true) s d n c l (omega arith) p (λ _. e) (λ _. h .held .present n p q);
+        past = λ n p q.
+            each-put (λ x. is-blank x ≡ true) s d n c l (omega arith) (omega arith) (λ f. absurd (omega arith)) (λ _. h .held .past n p q);
+      };
+    }
+
+pub sound-put :
+    {count : ℕ} {s : State} (d : ℕ) (c : Context) → Sound count s → 1 ≤ d → d ≤ count → context-good count c ≡ true
+    → (s .active ≡ 0 → ready s d ≡ false → is-ready (c .status) ≡ false)
+    → (ready s d ≡ true → is-ready (c .status) ≡ true) → Sound count (put s d c)
+sound-put {count} {s} d c h l k e f t =
+    record {
+      shaped = shaped-put d c (h .shaped) l k e;
+      led = record {
+        active = h .led .active;
+        idle = λ z n p q. ready-put false s d n c l (omega arith) p (h .led .idle z n p q) (f z);
+        runs = λ a. ready-put true s d (s .active) c l (omega arith) a (h .led .runs a) t;
+      };
+    }
+
+-- whatever the active domain has become
+pub sound-switch : {count : ℕ} {s : State} → Shaped count s → s .active ≤ count → Sound count (switch count s)
+unfolding switch
+sound-switch {count} {s} h a =
+    record { shaped = shaped-active _ h; led = switch-led count s (h .some) a }
+
+pub sound-roused :
+    {count : ℕ} {s : State} (d : ℕ) → Shaped count s → 1 ≤ d → d ≤ count → ready s d ≡ true → Sound count (with-active s d)
+sound-roused d h l k r =
+    record { shaped = shaped-active d h; led = record { active = k; idle = λ z. absurd (omega arith); runs = λ _. r } }
+
+-- ---- the start
+
+seated-long : (cs : List Context) (m : Map) (i n : ℕ) → length (seated cs m i n) ≡ length cs
+unfolding seated
+seated-long cs m i zero = refl
+seated-long cs m i (suc n) = seated-long _ m (i + 1) n ∙ length-set cs i _
+
+seated-other :
+    (cs : List Context) (m : Map) (i n k : ℕ) → ((j : ℕ) → j < n → k ≢ i + j)
+    → getD (seated cs m i n) k blank ≡ getD cs k blank
+unfolding seated
+seated-other cs m i zero k f = refl
+seated-other cs m i (suc n) k f =
+    seated-other _ m (i + 1) n k (λ j h. omega (arith, f (suc j) (omega arith)))
+    ∙ getD-set-other cs i k _ blank (omega (arith, f 0 (omega arith)))
+
+seated-at :
+    (cs : List Context) (m : Map) (i n k : ℕ) → i + n ≤ length cs → i ≤ k → k < i + n
+    → getD (seated cs m i n) k blank ≡ at-entry (getD (m .domains) k absent)
+unfolding seated
+seated-at cs m i zero k h a b = absurd (omega arith)
+seated-at cs m i (suc n) k h a b =
+    let c = at-entry (getD (m .domains) i absent) in
+    by-bool (eqb k i)
+    (λ t. rw (eqb-true k i t) (seated-other (set cs i c) m (i + 1) n i (λ j _. omega arith) ∙ getD-set-same cs i c blank (omega arith)))
+    (λ t. let f : k ≢ i = eqb-false k i t in
+    seated-at (set cs i c) m (i + 1) n k (rw length-set (omega arith)) (omega arith) (omega arith))
+
+pub start-sound : (m : Map) → 1 ≤ m .count → m .count ≤ most → Sound (m .count) (start m)
+unfolding start context-good box-good is-blank zeros
+start-sound m a b =
+    let at : (k : ℕ) → k < m .count → getD (seated (replicate most blank) m 0 (m .count)) k blank ≡ at-entry (getD (m .domains) k absent)
+    = λ k h. seated-at (replicate most blank) m 0 (m .count) k (omega arith) (omega arith) (omega arith) in
+    record {
+      shaped = record {
+        some = a;
+        few = b;
+        long = seated-long (replicate most blank) m 0 (m .count);
+        held = record {
+          present = λ d l h. rw (at (d - 1) (omega arith));
+          past = λ d l h.
+              rw (seated-other (replicate most blank) m 0 (m .count) (d - 1) (λ j q. omega arith), getD-replicate most (d - 1) blank blank (omega arith));
+        };
+      };
+      led = record { active = a; idle = λ z. absurd (omega arith); runs = λ _. rw (at 0 a) };
     }
