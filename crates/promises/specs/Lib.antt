@@ -1,2 +1,3 @@
 pub mod CaseL
 pub mod Edges
+pub mod Kept
