@@ -34,7 +34,8 @@ start-formed m g e =
     let a = acceptable m g e in
     let h = start-sound m (a .some) (a .few) in (sound-formed h, h .shaped .long)
 
-either : {A : Type 0} (P : A → Type 0) {x y : A} (b : Bool) → P x → P y → P (if b then x else y)
+-- a choice between two, whichever way the test falls
+pub either : {A : Type 0} (P : A → Type 0) {x y : A} (b : Bool) → P x → P y → P (if b then x else y)
 either P true p q = p
 either P false p q = q
 

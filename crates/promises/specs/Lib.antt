@@ -1,3 +1,4 @@
 pub mod CaseL
 pub mod Edges
 pub mod Kept
+pub mod Fair
