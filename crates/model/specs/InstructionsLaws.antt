@@ -3,19 +3,18 @@
 --     Fits, plan-fits      what an instruction leaves of its own context: the status, and the box unless it takes the word
 --     carry-long           memory keeps its length
 -- Assumes nothing.
-use Prim.Native.Nat.{ℕ, zero, suc, _+_}
-use mathlib.Core.Path.{_≡_, refl, sym, ap, _∙_}
-use mathlib.Core.Bool.{Bool, true, false}
+use Prim.Native.Nat.{ℕ}
+use mathlib.Core.Path.{_≡_, refl}
+use mathlib.Core.Bool.{true, false}
 use mathlib.Core.List.{List, [], _∷_}
 use lib.Dec.{leb, eqb}
 use lib.ListN.{length, getD}
-use lib.Seq.{sets, length-sets}
-use Rattle.model.specs.Basics.{if_then_else_, unless}
+use lib.Seq.{length-sets}
 use Rattle.model.specs.BasicsLaws.{by-bool, by-option}
 use Rattle.model.specs.Map.{Rights, lowest}
-use Rattle.model.specs.Table.{Row, size, registers-of, row-of}
+use Rattle.model.specs.Table.{registers-of, row-of}
 use Rattle.model.specs.States.{empty-box, is-waiting, box-good, context-good, full, register, set-register, with-counter}
-use Rattle.model.specs.Instructions.{Deed, Plan, Done, jump, take-into, work, checked, worked, decode, plan, carry, peek}
+use Rattle.model.specs.Instructions.{Deed, Plan, work, checked, worked, decode, plan, carry, peek}
 use Rattle.model.specs.declared.map.Access.{Access}
 use Rattle.model.specs.declared.state.Reason.{Reason}
 use Rattle.model.specs.declared.state.Context.{Context}

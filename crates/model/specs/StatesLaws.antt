@@ -1,17 +1,18 @@
 -- Laws of States.
---     context-same, context-other, ready-put     a context, and readiness, after another is put
---     Good                                       the facts that `well-formed count s ≡ true` gives, by `good`, and that give it, by `formed`
---     walk, reach, nearest                       the round that a switch goes: where it leads, and what it finds first
---     switch-led                                 after a switch the active domain is as "Well formed" says
+--     context-same, context-other, put-long, ready-put     a context, their number and readiness, after a context is put
+--     Good                           the facts that `well-formed count s ≡ true` gives, by `good`, and that give it, by `formed`
+--     walk, reach, nearest           the round that a switch goes: where it leads, and what it finds first
+--     found-within, -ready, -some    what a switch finds is a domain and ready, and is found if there is one
+--     Sound                          a well-formed state of an accepted map; what is put and switched leaves it so
+--     start-sound                    the start is one
 -- Assumes nothing.
 use Prim.Native.Nat.{ℕ, zero, suc, _+_, _-_, _≤_, _<_}
-use mathlib.Core.Path.{_≡_, refl, sym, ap, _∙_, subst}
+use mathlib.Core.Path.{_≡_, refl, sym, _∙_, subst}
 use mathlib.Core.Logic.{_≢_}
 use mathlib.Core.List.{List}
 use mathlib.Core.Bool.{Bool, true, false, _&&_, _||_, not}
 use native.Mathlib.Omega.{arith}
 use native.Mathlib.Nat.{add-zero, zero-add, suc-add}
-use native.Mathlib.Numerals.{add-one}
 use lib.Dec.{leb, ltb, eqb}
 use lib.ListN.{length, getD, set, replicate, length-set, getD-replicate}
 use lib.Seq.{getD-set-same, getD-set-other}
@@ -33,14 +34,24 @@ context-same s d c l h = getD-set-same (s .contexts) (d - 1) c blank (omega arit
 pub context-other : (s : State) (d e : ℕ) (c : Context) → 1 ≤ d → 1 ≤ e → e ≢ d → context (put s d c) e ≡ context s e
 context-other s d e c l h n = getD-set-other (s .contexts) (d - 1) (e - 1) c blank (omega arith)
 
--- what holds of the context put in and of all that were there before holds of each after
+pub put-long : (s : State) (d : ℕ) (c : Context) → length (put s d c .contexts) ≡ length (s .contexts)
+put-long s d c = length-set (s .contexts) (d - 1) c
+
+-- both at once, for whatever is said of a context
 pub each-put :
     (P : Context → Type 0) (s : State) (d e : ℕ) (c : Context) → 1 ≤ d → d ≤ length (s .contexts) → 1 ≤ e
     → (e ≡ d → P c) → (e ≢ d → P (context s e)) → P (context (put s d c) e)
 each-put P s d e c l h k p q =
     by-bool (eqb e d)
-    (λ t. let f : e ≡ d = eqb-true e d t in subst (λ (x : ℕ). P (context (put s d c) x)) (sym f) (rw (context-same s d c l h) (p f)))
+    (λ t. let f : e ≡ d = eqb-true e d t in
+    subst (λ (x : ℕ). P (context (put s d c) x)) (sym f) (rw (context-same s d c l h) (p f)))
     (λ t. let f : e ≢ d = eqb-false e d t in rw (context-other s d e c l k f) (q f))
+
+pub ready-put :
+    (v : Bool) (s : State) (d e : ℕ) (c : Context) → 1 ≤ d → d ≤ length (s .contexts) → 1 ≤ e → ready s e ≡ v
+    → (ready s d ≡ v → is-ready (c .status) ≡ v) → ready (put s d c) e ≡ v
+ready-put v s d e c l h k r f =
+    each-put (λ x. is-ready (x .status) ≡ v) s d e c l h k (λ q. f (rw q at r)) (λ _. r)
 
 -- the context of domain n + 1 stands at place n
 place : (s : State) (n : ℕ) → getD (s .contexts) n blank ≡ context s (n + 1)
@@ -77,7 +88,8 @@ unfolding contexts-good
 place-at count s zero k e h = absurd (omega arith)
 place-at count s (suc n) k e h =
     by-bool (ltb k n) (λ l. place-at count s n k (and-right (place-good count s n) _ e) (ltb-true k n l))
-    (λ l. let q : n ≡ k = omega (arith, ltb-false k n l) in rw q at (and-left (place-good count s n) (contexts-good count s n) e))
+    (λ l. let q : n ≡ k = omega (arith, ltb-false k n l) in
+    rw q at (and-left (place-good count s n) (contexts-good count s n) e))
 
 places-from : (count : ℕ) (s : State) (n : ℕ) → ((k : ℕ) → k < n → place-good count s k ≡ true) → contexts-good count s n ≡ true
 unfolding contexts-good
@@ -169,14 +181,6 @@ woken-ready Status.Ready e = e
 woken-ready Status.Waiting e = refl
 woken-ready (Status.Faulted r) e = e
 
--- ---- readiness after a context is put
-
-pub ready-put :
-    (v : Bool) (s : State) (d e : ℕ) (c : Context) → 1 ≤ d → d ≤ length (s .contexts) → 1 ≤ e → ready s e ≡ v
-    → (ready s d ≡ v → is-ready (c .status) ≡ v) → ready (put s d c) e ≡ v
-ready-put v s d e c l h k r f =
-    each-put (λ x. is-ready (x .status) ≡ v) s d e c l h k (λ q. f (rw q at r)) (λ _. r)
-
 -- ---- the round: "the first ready domain after the active one, going round and ending at itself"
 
 -- the domain j places after a
@@ -208,13 +212,13 @@ climb count a (suc j) h =
     let e : a + 1 + j ≡ a + suc j = omega arith in
     rw (lt-ltb a count (omega arith)) (climb count (a + 1) j (omega arith) ∙ e)
 
--- going round, from a to the last domain, to the first, to d
 from-last : (count d : ℕ) → 1 ≤ d → d ≤ count → walk count count d ≡ d
 unfolding walk
 from-last count zero l h = absurd (omega arith)
 from-last count (suc j) l h =
     let e : 1 + j ≡ suc j = omega arith in rw (le-ltb count count (omega arith)) (climb count 1 j (omega arith) ∙ e)
 
+-- going round: from a to the last domain, to the first, to d
 round : (count a d : ℕ) → a ≤ count → 1 ≤ d → d ≤ count → walk count a (count - a + d) ≡ d
 round count a d h l k =
     let e : a + (count - a) ≡ count = omega arith in
@@ -233,7 +237,8 @@ reach count a d h l k =
     by-bool (ltb a d)
     (λ t. let b : a < d = ltb-true a d t in
     let e : a + (d - a) ≡ d = omega arith in
-    record { far = d - a; some = omega arith; whole = omega arith; short = omega arith; meets = climb count a (d - a) (omega arith) ∙ e })
+    let w = climb count a (d - a) (omega arith) ∙ e in
+    record { far = d - a; some = omega arith; whole = omega arith; short = omega arith; meets = w })
     (λ t. let b : d ≤ a = ltb-false a d t in
     record { far = count - a + d; some = omega arith; whole = omega arith; short = omega arith; meets = round count a d h l k })
 
@@ -270,7 +275,8 @@ found-within count s (suc n) a h =
 pub found-ready : (count : ℕ) (s : State) (n a : ℕ) → 1 ≤ first-ready count s n a → ready s (first-ready count s n a) ≡ true
 unfolding first-ready
 found-ready count s zero a h = absurd (omega arith)
-found-ready count s (suc n) a h = by-bool (ready s (after count a)) (λ t. rw (t, t)) (λ t. rw t (found-ready count s n (after count a) (rw t at h)))
+found-ready count s (suc n) a h =
+    by-bool (ready s (after count a)) (λ t. rw (t, t)) (λ t. rw t (found-ready count s n (after count a) (rw t at h)))
 
 -- "with none, active becomes 0", and only then
 pub found-some :
@@ -292,13 +298,14 @@ switch-led count s h a =
 
 -- ---- what keeps a state well formed
 
--- what a state keeps while an event changes it, and what it has between events
+-- what a state has throughout an event
 pub record Shaped (count : ℕ) (s : State) : Type 0 where
   pub some : 1 ≤ count
   pub few : count ≤ most
   pub long : length (s .contexts) ≡ most
   pub held : Held count s
 
+-- and what it has between events
 pub record Sound (count : ℕ) (s : State) : Type 0 where
   pub shaped : Shaped count s
   pub led : Led count s
@@ -323,12 +330,13 @@ shaped-put {count} {s} d c h l k e =
     record {
       some = h .some;
       few = h .few;
-      long = length-set (s .contexts) (d - 1) c ∙ h .long;
+      long = put-long s d c ∙ h .long;
       held = record {
         present = λ n p q.
             each-put (λ x. context-good count x ≡ true) s d n c l (omega arith) p (λ _. e) (λ _. h .held .present n p q);
         past = λ n p q.
-            each-put (λ x. is-blank x ≡ true) s d n c l (omega arith) (omega arith) (λ f. absurd (omega arith)) (λ _. h .held .past n p q);
+            each-put (λ x. is-blank x ≡ true) s d n c l (omega arith) (omega arith) (λ f. absurd (omega arith))
+            (λ _. h .held .past n p q);
       };
     }
 
@@ -349,8 +357,7 @@ sound-put {count} {s} d c h l k e f t =
 -- whatever the active domain has become
 pub sound-switch : {count : ℕ} {s : State} → Shaped count s → s .active ≤ count → Sound count (switch count s)
 unfolding switch
-sound-switch {count} {s} h a =
-    record { shaped = shaped-active _ h; led = switch-led count s (h .some) a }
+sound-switch {count} {s} h a = record { shaped = shaped-active _ h; led = switch-led count s (h .some) a }
 
 pub sound-roused :
     {count : ℕ} {s : State} (d : ℕ) → Shaped count s → 1 ≤ d → d ≤ count → ready s d ≡ true → Sound count (with-active s d)
@@ -381,25 +388,33 @@ seated-at cs m i zero k h a b = absurd (omega arith)
 seated-at cs m i (suc n) k h a b =
     let c = at-entry (getD (m .domains) i absent) in
     by-bool (eqb k i)
-    (λ t. rw (eqb-true k i t) (seated-other (set cs i c) m (i + 1) n i (λ j _. omega arith) ∙ getD-set-same cs i c blank (omega arith)))
+    (λ t. rw (eqb-true k i t)
+    (seated-other (set cs i c) m (i + 1) n i (λ j _. omega arith) ∙ getD-set-same cs i c blank (omega arith)))
     (λ t. let f : k ≢ i = eqb-false k i t in
     seated-at (set cs i c) m (i + 1) n k (rw length-set (omega arith)) (omega arith) (omega arith))
+
+at-start :
+    (m : Map) (k : ℕ) → m .count ≤ most → k < m .count → getD (start m .contexts) k blank ≡ at-entry (getD (m .domains) k absent)
+unfolding start
+at-start m k f h = seated-at (replicate most blank) m 0 (m .count) k (omega arith) (omega arith) (omega arith)
+
+past-start : (m : Map) (k : ℕ) → m .count ≤ k → k < most → getD (start m .contexts) k blank ≡ blank
+unfolding start
+past-start m k f h =
+    seated-other (replicate most blank) m 0 (m .count) k (λ j q. omega arith) ∙ getD-replicate most k blank blank h
 
 pub start-sound : (m : Map) → 1 ≤ m .count → m .count ≤ most → Sound (m .count) (start m)
 unfolding start context-good box-good is-blank zeros
 start-sound m a b =
-    let at : (k : ℕ) → k < m .count → getD (seated (replicate most blank) m 0 (m .count)) k blank ≡ at-entry (getD (m .domains) k absent)
-    = λ k h. seated-at (replicate most blank) m 0 (m .count) k (omega arith) (omega arith) (omega arith) in
     record {
       shaped = record {
         some = a;
         few = b;
         long = seated-long (replicate most blank) m 0 (m .count);
         held = record {
-          present = λ d l h. rw (at (d - 1) (omega arith));
-          past = λ d l h.
-              rw (seated-other (replicate most blank) m 0 (m .count) (d - 1) (λ j q. omega arith), getD-replicate most (d - 1) blank blank (omega arith));
+          present = λ d l h. rw (at-start m (d - 1) b (omega arith));
+          past = λ d l h. rw (past-start m (d - 1) (omega arith) (omega arith));
         };
       };
-      led = record { active = a; idle = λ z. absurd (omega arith); runs = λ _. rw (at 0 a) };
+      led = record { active = a; idle = λ z. absurd (omega arith); runs = λ _. rw (at-start m 0 b a) };
     }

@@ -1,25 +1,27 @@
 -- Document 01, "The state": "Switching takes the first ready domain after the active one, going round and ending at itself ..
 -- Hence a domain that stays ready is active after at most N - 1 switches. Prove this."
--- The theorem is `fair`, over any events; `honest` says that what it counts are the switches.
+-- The theorem is `fair`, over any events from any well-formed state; `honest` says that what it counts are the switches.
 -- Assumes nothing.
-use Prim.Native.Nat.{ℕ, zero, suc, _+_, _-_, _≤_, _<_}
-use mathlib.Core.Path.{_≡_, refl, sym, ap, _∙_}
+use Prim.Native.Nat.{ℕ, zero, suc, _+_, _-_, _≤_}
+use mathlib.Core.Path.{_≡_, refl, ap, _∙_}
 use mathlib.Core.Logic.{_≢_}
-use mathlib.Core.Bool.{Bool, true, false, _&&_}
+use mathlib.Core.Bool.{true}
 use mathlib.Core.List.{List, [], _∷_}
 use native.Mathlib.Omega.{arith}
 use lib.Dec.{eqb}
 use borrow.Author.Tests.{eqb-true, eqb-false, ne-eqb}
 use Rattle.model.specs.Basics.{if_then_else_}
-use Rattle.model.specs.Map.{most, Grid, is-domain}
-use Rattle.model.specs.States.{full, context, ready, active-good, well-formed, first-ready, switch}
+use Rattle.model.specs.Map.{Grid, is-domain}
+use Rattle.model.specs.States.{full, context, ready, active-good, start, well-formed, switch}
 use Rattle.model.specs.Instructions.{Deed}
 use Rattle.model.specs.Events.{Outcome, sent, perform, attempt, step, tick, word-in, event}
 use Rattle.model.specs.BasicsLaws.{by-bool, and-left}
-use Rattle.model.specs.StatesLaws.{Good, good, Led, led, walk, walk-some, walk-on, reach, nearest}
+use Rattle.model.specs.StatesLaws.{Led, led, walk, walk-some, walk-on, reach, nearest}
+use Rattle.model.specs.Whole.{whole}
 use Rattle.model.specs.declared.map.Map.{Map}
 use Rattle.model.specs.declared.state.State.{State}
 use Rattle.model.specs.declared.event.Event.{Event}
+use Rattle.promises.specs.CaseL.{L-map, L-grid, L-memory, L-well-formed}
 use Rattle.promises.specs.Kept.{either}
 
 -- ---- what is counted
@@ -59,13 +61,14 @@ pub data Meets (m : Map) (g : Grid) (d : ℕ) : State → List ℕ → List Even
 
 -- ---- the count is honest
 
--- 0: the active domain is as it was; 1: some state with that active domain was switched
+-- what n switches make of s. 0: the active domain is as it was; 1: the state is a switch's, from that active domain
 pub data Moved (count : ℕ) (s : State) : State → ℕ → Type 0 where
   stays : {t : State} → t .active ≡ s .active → Moved count s t 0
   switched : (t : State) → t .active ≡ s .active → Moved count s (switch count t) 1
 
 deed-honest :
-    (count : ℕ) (s : State) (d : ℕ) (memory : List ℕ) (x : Deed) → Moved count s (perform count s d memory x .state) (deed-switches x)
+    (count : ℕ) (s : State) (d : ℕ) (memory : List ℕ) (x : Deed)
+    → Moved count s (perform count s d memory x .state) (deed-switches x)
 unfolding perform sent deed-switches
 deed-honest count s d memory (Deed.runs c) = Moved.stays refl
 deed-honest count s d memory (Deed.gives-way c) = Moved.switched _ refl
@@ -111,22 +114,24 @@ closer count d s _ j n (Moved.switched t e) a w l h r =
       meets = rw (i .at) (walk-on count (t .active) (i .near) (j - i .near) ∙ rw q v);
     }
 
-ready-now : (m : Map) (g : Grid) (d : ℕ) (s : State) (memory : List ℕ) (es : List Event) → StaysReady m g d s memory es → ready s d ≡ true
+ready-now :
+    (m : Map) (g : Grid) (d : ℕ) (s : State) (memory : List ℕ) (es : List Event) → StaysReady m g d s memory es → ready s d ≡ true
 ready-now m g d s memory [] r = r
 ready-now m g d s memory (e ∷ es) r = r .0
 
 -- d lies j places ahead, and j switches are made
 fair-from :
-    (m : Map) (g : Grid) (d : ℕ) (s : State) (memory : List ℕ) (es : List Event) (j : ℕ) → 1 ≤ s .active → walk (m .count) (s .active) j ≡ d
-    → j ≤ m .count → StaysReady m g d s memory es → j ≤ run-switches m g s memory es → Meets m g d s memory es
+    (m : Map) (g : Grid) (d : ℕ) (s : State) (memory : List ℕ) (es : List Event) (j : ℕ) → 1 ≤ s .active
+    → walk (m .count) (s .active) j ≡ d → j ≤ m .count → StaysReady m g d s memory es
+    → j ≤ run-switches m g s memory es → Meets m g d s memory es
 unfolding walk run-switches
 fair-from m g d s memory [] zero a w h r k = Meets.now w
 fair-from m g d s memory [] (suc j) a w h r k = absurd (omega arith)
 fair-from m g d s memory (e ∷ es) zero a w h r k = Meets.now w
 fair-from m g d s memory (e ∷ es) (suc j) a w h r k =
     let t = event m g s memory e in
-    let c = closer (m .count) d s (t .state) (suc j) _ (honest m g s memory e a) a w (omega arith) h
-    (ready-now m g d (t .state) (t .memory) es (r .1)) in
+    let b = ready-now m g d (t .state) (t .memory) es (r .1) in
+    let c = closer (m .count) d s (t .state) (suc j) _ (honest m g s memory e a) a w (omega arith) h b in
     Meets.later (fair-from m g d (t .state) (t .memory) es (c .far) (c .some) (c .meets) (omega arith) (r .1) (omega arith))
 
 awake : (count : ℕ) (s : State) (d : ℕ) → Led count s → 1 ≤ d → d ≤ count → ready s d ≡ true → 1 ≤ s .active
@@ -135,10 +140,11 @@ awake count s d a l h r =
     (λ t. let f = a .idle (eqb-true (s .active) 0 t) d l h in let z : _≡_ {A = ℕ} 0 1 = cc in absurd (omega arith))
     (λ t. let f : s .active ≢ 0 = eqb-false (s .active) 0 t in omega arith)
 
--- where N - 1 switches or more are made, d is active before the first of them or after one
+-- over events that make N - 1 switches, or more, d is active before them or after one of them
 pub fair :
     (m : Map) (g : Grid) (d : ℕ) (s : State) (memory : List ℕ) (es : List Event) → well-formed (m .count) s ≡ true
-    → 1 ≤ d → d ≤ m .count → StaysReady m g d s memory es → m .count ≤ run-switches m g s memory es + 1 → Meets m g d s memory es
+    → 1 ≤ d → d ≤ m .count → StaysReady m g d s memory es → m .count ≤ run-switches m g s memory es + 1
+    → Meets m g d s memory es
 unfolding well-formed
 fair m g d s memory es f l h r k =
     let a = led (m .count) s (and-left (active-good (m .count) s) _ f) in
@@ -147,3 +153,10 @@ fair m g d s memory es f l h r k =
     by-bool (eqb (s .active) d) (λ t. Meets.now (eqb-true (s .active) d t))
     (λ t. let n = w .short b (eqb-false (s .active) d t) in
     fair-from m g d s memory es (w .far) b (w .meets) (w .whole) r (omega arith))
+
+-- Case L meets the premises: domain 1 runs, then faults and switches, and domain 2 is ready all the while
+pub L-fair : Meets L-map L-grid 2 (start L-map) L-memory (Event.Step ∷ Event.Step ∷ [])
+unfolding whole deed-switches event-switches run-switches
+L-fair =
+    fair L-map L-grid 2 (start L-map) L-memory (Event.Step ∷ Event.Step ∷ []) L-well-formed (omega arith) (omega arith)
+    (refl, (refl, refl)) (omega arith)
