@@ -1,5 +1,6 @@
 -- Laws of Basics, and of the tests that the definitions are made of.
 --     by-bool, by-option    a proof by cases that keeps the equation
+--     either                what holds of both branches of a choice holds of the choice
 --     and-left, and-right   what a conjunction that holds tells
 --     number-bytes, bytes-number   a number's four bytes read back, and four bytes written back
 -- Assumes nothing.
@@ -40,6 +41,15 @@ and-both e f = rw e f
 pub or-right : (a b : Bool) → a || b ≡ true → a ≡ false → b ≡ true
 or-right true b e f = cc
 or-right false b e f = e
+
+pub or-neither : (a b : Bool) → a || b ≡ false → (a ≡ false) × (b ≡ false)
+or-neither true b e = (e, cc)
+or-neither false b e = (refl, e)
+
+-- whichever way a test falls
+pub either : {A : Type 0} (P : A → Type 0) {x y : A} (b : Bool) → P x → P y → P (if b then x else y)
+either P true p q = p
+either P false p q = q
 
 pub number-bytes : (n : ℕ) → n < 2 ^ 32 → number (bytes n) 0 ≡ n
 number-bytes n h = omega arith

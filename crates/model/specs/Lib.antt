@@ -10,8 +10,12 @@ pub mod ChannelLaws
 pub mod RecordLaws
 pub mod SheetLaws
 pub mod States
+pub mod StatesLaws
+pub mod SwitchLaws
+pub mod SoundLaws
 pub mod Table
 pub mod Instructions
+pub mod InstructionsLaws
 pub mod Events
 pub mod EventsLaws
 pub mod Calls

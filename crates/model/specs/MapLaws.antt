@@ -10,7 +10,7 @@ use lib.Dec.{leb, ltb}
 use borrow.Author.Tests.{ltb-true, ltb-false, leb-true, leb-false, lt-ltb, le-ltb, le-leb}
 use Rattle.model.specs.Basics.{if_then_else_}
 use Rattle.model.specs.BasicsLaws.{by-bool, none-some, and-left, and-right, and-both}
-use Rattle.model.specs.Map.{inside, filled, overlaps, may, lowest}
+use Rattle.model.specs.Map.{inside, filled, overlaps, Grid, is-domain, may, granted, lowest}
 use Rattle.model.specs.declared.map.Region.{Region}
 use Rattle.model.specs.declared.map.Domain.{Domain}
 use Rattle.model.specs.declared.map.Access.{Access}
@@ -66,6 +66,15 @@ overlaps-swap r q =
 
 pub apart : (r q : Region) (a : ℕ) → not (overlaps r q) ≡ true → inside r a ≡ true → inside q a ≡ false
 apart r q a n e = by-bool (inside q a) (λ f. let o = overlaps-shared r q a e f in cc) (λ f. f)
+
+-- ---- domains
+
+pub in-range : (count d : ℕ) → is-domain count d ≡ true → (1 ≤ d) × (d ≤ count)
+in-range count d e = (leb-true 1 d (and-left _ (leb d count) e), leb-true d count (and-right (leb 1 d) _ e))
+
+pub granted-domain : (count : ℕ) (g : Grid) (f t : ℕ) → granted count g f t ≡ true → is-domain count t ≡ true
+unfolding granted
+granted-domain count g f t e = and-left (is-domain count t) _ e
 
 -- ---- the access rule
 

@@ -4,6 +4,8 @@
 --     Wider       demand 3
 --     Table1      the access rule, against source 000
 --     Isolation   what a step can touch, and what it depends on
+--     Kept        the start is well formed, and every event keeps a state so
+--     Fair        a domain that stays ready is active after at most N - 1 switches
 --     Batches     a batch's number
 --     Sheets      read after write, write after read, the length
 --     Met         the premises can be met
@@ -12,6 +14,8 @@ pub mod Edges
 pub mod Wider
 pub mod Table1
 pub mod Isolation
+pub mod Kept
+pub mod Fair
 pub mod Batches
 pub mod Sheets
 pub mod Met
