@@ -66,7 +66,7 @@ module _ (g : Grid) (s : Square g) (m : Map) (good : (k : ℕ) → k < most * mo
   rises : (p q : ℕ) → p < most * most → q ≤ p → cell g p ≡ true → rising (m .count) q (from p) (to p) ≡ true
   rises p q h l e =
       let c : is-channel (m .count) (from p) (to p) ≡ true = rw e at (good p h) in
-      and-both c (le-leb q (place (from p) (to p)) (omega arith))
+      and-both c (omega (arith, le-leb))
 
   cells-back :
       (p n at q : ℕ) (acc : Grid) → p + n ≡ most * most → q ≤ p → Square acc → Partly g acc p
@@ -195,7 +195,8 @@ module _ (m : Map) (few : m .count ≤ most) (m′ : Map) (g : Grid) where
       (channels-read (at + 3) m (place f t + 1) (mark acc f t) rest) m′ g w in
       let r = check-true (rising (m .count) p f t) Refusal.Channel (j .0) in
       let c = and-left (is-channel (m .count) f t) (leb p (place f t)) r in
-      let l = leb-true p (place f t) (and-right (is-channel (m .count) f t) _ r) in
+      let u = and-right (is-channel (m .count) f t) (leb p (place f t)) r in
+      let l : p ≤ place f t = omega (arith, leb-true) in
       let x = ends-known f t c in
       let n′ = most * most - (place f t + 1) in
       rw q

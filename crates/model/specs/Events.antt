@@ -7,7 +7,7 @@ use lib.Dec.{leb, eqb}
 use lib.ListN.{length, getD, drop}
 use Rattle.model.specs.Basics.{if_then_else_, number}
 use Rattle.model.specs.Map.{Grid, is-domain, rights}
-use Rattle.model.specs.States.{full, is-waiting, set-register, with-status, received, context, put, with-active, switch}
+use Rattle.model.specs.States.{full, is-waiting, set-register, with-status, received, context, put, own, put-own, with-active, switch}
 use Rattle.model.specs.Instructions.{Deed, Done, plan, carry}
 use Rattle.model.specs.declared.map.Map.{Map}
 use Rattle.model.specs.declared.state.Reason.{Reason}
@@ -47,32 +47,35 @@ gives a s memory = record { answer = a; state = s; memory = memory }
 abbrev pub delivered : State → ℕ → ℕ → ℕ → State
 delivered s t w from = put s t (received (context s t) w from)
 
--- "otherwise R0 becomes 1 and the box is filled, or R0 becomes 0 if it was full"
-unfoldable pub sent : State → ℕ → ℕ → ℕ → Context → State
-sent s d t w c =
-    if full (context s t .mailbox) then put s d (set-register c 0 0) else delivered (put s d (set-register c 0 1)) t w d
+-- "otherwise R0 becomes 1 and the box is filled, or R0 becomes 0 if it was full": the active domain, left with context c, sends w to t
+unfoldable pub sent : State → ℕ → ℕ → Context → State
+sent s t w c =
+    if full (context s t .mailbox)
+    then put-own s (set-register c 0 0)
+    else delivered (put-own s (set-register c 0 1)) t w (s .active)
 
--- what domain d's deed makes of the state. "A fault sets the status, changes nothing else of the domain, memory or boxes, and switches."
-unfoldable pub perform : ℕ → State → ℕ → List ℕ → Deed → Outcome
-perform count s d memory (Deed.runs c) = gives (Answer.Ran d) (put s d c) memory
-perform count s d memory (Deed.gives-way c) = gives (Answer.Ran d) (switch count (put s d c)) memory
-perform count s d memory Deed.waits =
-    gives (Answer.Waits d) (switch count (put s d (with-status (context s d) Status.Waiting))) memory
-perform count s d memory Deed.halts =
-    gives (Answer.Halted d) (switch count (put s d (with-status (context s d) Status.Halted))) memory
-perform count s d memory (Deed.faults r) =
-    gives (Answer.Faulted d r) (switch count (put s d (with-status (context s d) (Status.Faulted r)))) memory
-perform count s d memory (Deed.sends t w c) = gives (Answer.Ran d) (sent s d t w c) memory
+-- what the active domain's deed makes of the state.
+-- "A fault sets the status, changes nothing else of the domain, memory or boxes, and switches."
+unfoldable pub perform : ℕ → State → List ℕ → Deed → Outcome
+perform count s memory (Deed.runs c) = gives (Answer.Ran (s .active)) (put-own s c) memory
+perform count s memory (Deed.gives-way c) = gives (Answer.Ran (s .active)) (switch count (put-own s c)) memory
+perform count s memory Deed.waits =
+    gives (Answer.Waits (s .active)) (switch count (put-own s (with-status (own s) Status.Waiting))) memory
+perform count s memory Deed.halts =
+    gives (Answer.Halted (s .active)) (switch count (put-own s (with-status (own s) Status.Halted))) memory
+perform count s memory (Deed.faults r) =
+    gives (Answer.Faulted (s .active) r) (switch count (put-own s (with-status (own s) (Status.Faulted r)))) memory
+perform count s memory (Deed.sends t w c) = gives (Answer.Ran (s .active)) (sent s t w c) memory
 
 -- what the active domain's instruction comes to
 abbrev pub attempt : Map → Grid → State → List ℕ → Done
-attempt m g s memory = carry (rights m g (s .active)) memory (plan (context s (s .active)))
+attempt m g s memory = carry (rights m g (s .active)) memory (plan (own s))
 
 -- "idle for a step or tick when active is 0, changing nothing"
 unfoldable pub step : Map → Grid → State → List ℕ → Outcome
 step m g s memory =
     let done = attempt m g s memory in
-    if eqb (s .active) 0 then gives Answer.Idle s memory else perform (m .count) s (s .active) (done .memory) (done .deed)
+    if eqb (s .active) 0 then gives Answer.Idle s memory else perform (m .count) s (done .memory) (done .deed)
 
 unfoldable pub tick : ℕ → State → List ℕ → Outcome
 tick count s memory =

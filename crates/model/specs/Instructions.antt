@@ -12,7 +12,7 @@ use lib.Seq.{sets}
 use Rattle.model.specs.Basics.{if_then_else_, unless, bytes, number, half}
 use Rattle.model.specs.Map.{Rights, lowest}
 use Rattle.model.specs.Table.{Row, size, registers-of, row-of}
-use Rattle.model.specs.States.{full, take-word, register, set-register, with-counter, with-box}
+use Rattle.model.specs.States.{full, held-word, held-sender, take-word, register, set-register, with-counter, with-box}
 use Rattle.model.specs.declared.map.Access.{Access}
 use Rattle.model.specs.declared.state.Reason.{Reason}
 use Rattle.model.specs.declared.state.Context.{Context}
@@ -44,7 +44,7 @@ sets-register c r v = Plan.end (Deed.runs (set-register c r v))
 -- "receive word into r, then sender into s; the box becomes empty"
 abbrev pub take-into : Context → Context → ℕ → ℕ → Context
 take-into c on r s =
-    set-register (set-register (with-box on (take-word (c .mailbox))) r (c .mailbox .word)) s (c .mailbox .sender)
+    set-register (set-register (with-box on (take-word (c .mailbox))) r (held-word (c .mailbox))) s (held-sender (c .mailbox))
 
 -- the effect with body b in context c; `on` is c with its counter past the instruction.
 -- "Every register that an instruction reads is read before it sets any": values are read from c

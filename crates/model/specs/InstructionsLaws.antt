@@ -13,8 +13,9 @@ use lib.Seq.{length-sets}
 use Rattle.model.specs.BasicsLaws.{by-bool, by-option}
 use Rattle.model.specs.Map.{Rights, lowest}
 use Rattle.model.specs.Table.{registers-of, row-of}
-use Rattle.model.specs.States.{empty-box, is-waiting, box-good, context-good, full, register, set-register, with-counter}
-use Rattle.model.specs.Instructions.{Deed, Plan, work, checked, worked, decode, plan, carry, peek}
+use Rattle.model.specs.States.{take-word, context-good, full, register, set-register, with-counter}
+use Rattle.model.specs.StatesLaws.{take-good, take-waits}
+use Rattle.model.specs.Instructions.{Deed, Plan, jump, work, checked, worked, decode, plan, carry, peek}
 use Rattle.model.specs.declared.map.Access.{Access}
 use Rattle.model.specs.declared.state.Reason.{Reason}
 use Rattle.model.specs.declared.state.Context.{Context}
@@ -48,19 +49,19 @@ carry-long q memory (Plan.store a bs c) =
 carry-long q memory (Plan.pass t w c) = by-bool (q .sends t) (λ e. rw e) (λ e. rw e)
 carry-long q memory (Plan.end x) = refl
 
--- c with other registers and another counter; the box is c's, or empty
+-- c with other registers and another counter; the box is c's, or without the word that was taken
 pub data Alike (c : Context) : Context → Type 0 where
   same : (rs : List ℕ) (n : ℕ) → Alike c (record { registers = rs; counter = n; status = c .status; mailbox = c .mailbox })
-  took : (rs : List ℕ) (n : ℕ) → Alike c (record { registers = rs; counter = n; status = c .status; mailbox = empty-box })
+  took : (rs : List ℕ) (n : ℕ) → Alike c (record { registers = rs; counter = n; status = c .status; mailbox = take-word (c .mailbox) })
 
 pub alike-status : {c x : Context} → Alike c x → x .status ≡ c .status
 alike-status (Alike.same rs n) = refl
 alike-status (Alike.took rs n) = refl
 
 pub alike-good : {c x : Context} (count : ℕ) → Alike c x → context-good count c ≡ true → context-good count x ≡ true
-unfolding context-good box-good
+unfolding context-good
 alike-good count (Alike.same rs n) e = e
-alike-good {c} count (Alike.took rs n) e = by-bool (is-waiting (c .status)) (λ t. rw t) (λ t. rw t)
+alike-good {c} count (Alike.took rs n) e = rw (take-waits (c .status) (c .mailbox)) (take-good count (c .mailbox))
 
 pub alike-set : {c x : Context} (r v : ℕ) → Alike c x → Alike c (set-register x r v)
 alike-set r v (Alike.same rs n) = Alike.same _ _
@@ -74,6 +75,9 @@ Fits q c Deed.waits = full (c .mailbox) ≡ false
 Fits q c Deed.halts = Unit {0}
 Fits q c (Deed.faults r) = Unit {0}
 Fits q c (Deed.sends t w x) = (q .sends t ≡ true) × Alike c x
+
+jump-fits : (q : Rights) (c : Context) (target : ℕ) → Each q (Fits q c) (jump c target)
+jump-fits q c target = Alike.same _ _
 
 work-fits : (q : Rights) (e : Effect) (b : List ℕ) (c : Context) (n : ℕ) → Each q (Fits q c) (work e b c (with-counter c n))
 unfolding work
@@ -90,10 +94,10 @@ work-fits q Effect.LoadByte b c n = λ got. Alike.same _ _
 work-fits q Effect.LoadWord b c n = λ got. Alike.same _ _
 work-fits q Effect.StoreByte b c n = Alike.same _ _
 work-fits q Effect.StoreWord b c n = Alike.same _ _
-work-fits q Effect.Jump b c n = Alike.same _ _
+work-fits q Effect.Jump b c n = jump-fits q c _
 work-fits q Effect.JumpIf b c n =
-    by-bool (eqb (register c (getD b 0 0)) 0) (λ e. rw e (Alike.same _ _)) (λ e. rw e (Alike.same _ _))
-work-fits q Effect.JumpTo b c n = Alike.same _ _
+    by-bool (eqb (register c (getD b 0 0)) 0) (λ e. rw e (Alike.same _ _)) (λ e. rw e (jump-fits q c _))
+work-fits q Effect.JumpTo b c n = jump-fits q c _
 work-fits q Effect.Send b c n = λ e. (e, Alike.same _ _)
 work-fits q Effect.Receive b c n = by-bool (full (c .mailbox)) (λ e. rw e (Alike.took _ _)) (λ e. rw e)
 work-fits q Effect.Advance b c n = Alike.same _ _

@@ -20,3 +20,4 @@ pub mod Events
 pub mod EventsLaws
 pub mod Calls
 pub mod Whole
+pub mod Samples

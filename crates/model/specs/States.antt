@@ -34,6 +34,13 @@ full b = b .full
 abbrev pub fill : Mailbox → ℕ → ℕ → Mailbox
 fill b w from = record { full = true; word = w; sender = from }
 
+-- the word that receive gets, its sender, and the box without it
+abbrev pub held-word : Mailbox → ℕ
+held-word b = b .word
+
+abbrev pub held-sender : Mailbox → ℕ
+held-sender b = b .sender
+
 abbrev pub take-word : Mailbox → Mailbox
 take-word b = empty-box
 
@@ -83,13 +90,20 @@ woken x = if is-waiting x then Status.Ready else x
 abbrev pub received : Context → ℕ → ℕ → Context
 received c w from = with-status (with-box c (fill (c .mailbox) w from)) (woken (c .status))
 
--- ---- a state: the context of domain d, the state with another in its place, with another domain active
+-- ---- a state: the context of domain d; the state with another in its place, or with another domain active
 
 abbrev pub context : State → ℕ → Context
 context s d = getD (s .contexts) (d - 1) blank
 
 abbrev pub put : State → ℕ → Context → State
 put s d c = record { active = s .active; contexts = set (s .contexts) (d - 1) c }
+
+-- the active domain's own
+abbrev pub own : State → Context
+own s = context s (s .active)
+
+abbrev pub put-own : State → Context → State
+put-own s c = put s (s .active) c
 
 abbrev pub with-active : State → ℕ → State
 with-active s d = record { active = d; contexts = s .contexts }

@@ -1,12 +1,12 @@
 -- Laws of States: contexts and well-formedness.
 --     context-same, context-other, put-long, ready-put     a context, their number and readiness, after a context is put
 --     Good                           the facts that `well-formed count s ≡ true` gives, by `good`, and that give it, by `formed`
---     status-good, received-good     contexts that stay good
+--     fill-good, take-good           boxes that stay good;  status-good, received-good: contexts
 -- Assumes nothing.
 use Prim.Native.Nat.{ℕ, zero, suc, _+_, _-_, _≤_, _<_}
 use mathlib.Core.Path.{_≡_, refl, sym, subst}
 use mathlib.Core.Logic.{_≢_}
-use mathlib.Core.Bool.{Bool, true, false, _&&_, not}
+use mathlib.Core.Bool.{Bool, true, false, _&&_, not, and-false}
 use native.Mathlib.Omega.{arith}
 use lib.Dec.{leb, ltb, eqb}
 use lib.ListN.{length, getD, length-set}
@@ -15,8 +15,9 @@ use borrow.Author.Tests.{ltb-true, ltb-false, leb-true, eqb-true, eqb-false, not
 use Rattle.model.specs.Basics.{if_then_else_}
 use Rattle.model.specs.Map.{most}
 use Rattle.model.specs.BasicsLaws.{by-bool, and-left, and-right, and-both, or-neither}
-use Rattle.model.specs.States.{full, blank, with-status, is-ready, is-waiting, woken, received, context, put, ready, any-ready, active-good, box-good, context-good, is-blank, contexts-good, well-formed}
+use Rattle.model.specs.States.{full, fill, take-word, blank, with-status, is-ready, is-waiting, woken, received, context, put, ready, any-ready, active-good, box-good, context-good, is-blank, contexts-good, well-formed}
 use Rattle.model.specs.declared.state.Status.{Status}
+use Rattle.model.specs.declared.state.Mailbox.{Mailbox}
 use Rattle.model.specs.declared.state.Context.{Context}
 use Rattle.model.specs.declared.state.State.{State}
 
@@ -146,7 +147,19 @@ pub formed : (count : ℕ) (s : State) → Good count s → well-formed count s 
 unfolding well-formed
 formed count s g = and-both (leads count s (g .led)) (holds count s (g .held))
 
--- ---- contexts that stay good
+-- ---- boxes and contexts that stay good
+
+pub fill-good : (count : ℕ) (b : Mailbox) (w from : ℕ) → from ≤ count → box-good count (fill b w from) ≡ true
+unfolding box-good
+fill-good count b w from h = le-leb from count h
+
+pub take-good : (count : ℕ) (b : Mailbox) → box-good count (take-word b) ≡ true
+unfolding box-good
+take-good count b = refl
+
+-- once its word is taken, a box does not stand in the way of waiting
+pub take-waits : (x : Status) (b : Mailbox) → is-waiting x && full (take-word b) ≡ false
+take-waits x b = and-false (is-waiting x)
 
 -- a status other than waiting, or an empty box
 pub status-good :
@@ -162,8 +175,8 @@ woken-waiting Status.Waiting = refl
 woken-waiting (Status.Faulted r) = refl
 
 pub received-good : (count : ℕ) (c : Context) (w from : ℕ) → from ≤ count → context-good count (received c w from) ≡ true
-unfolding context-good box-good
-received-good count c w from h = rw (woken-waiting (c .status), le-leb from count h)
+unfolding context-good
+received-good count c w from h = rw (woken-waiting (c .status)) (fill-good count (c .mailbox) w from h)
 
 pub woken-ready : (x : Status) → is-ready x ≡ true → is-ready (woken x) ≡ true
 woken-ready Status.Halted e = e

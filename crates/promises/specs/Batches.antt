@@ -43,14 +43,14 @@ abbrev pub steps : ℕ → List Event
 steps limit = replicate limit Event.Step
 
 perform-busy :
-    (count : ℕ) (s : State) (d : ℕ) (memory : List ℕ) (x : Deed) → is-idle (perform count s d memory x .answer) ≡ false
+    (count : ℕ) (s : State) (memory : List ℕ) (x : Deed) → is-idle (perform count s memory x .answer) ≡ false
 unfolding perform
-perform-busy count s d memory (Deed.runs c) = refl
-perform-busy count s d memory (Deed.gives-way c) = refl
-perform-busy count s d memory Deed.waits = refl
-perform-busy count s d memory Deed.halts = refl
-perform-busy count s d memory (Deed.faults r) = refl
-perform-busy count s d memory (Deed.sends t w c) = refl
+perform-busy count s memory (Deed.runs c) = refl
+perform-busy count s memory (Deed.gives-way c) = refl
+perform-busy count s memory Deed.waits = refl
+perform-busy count s memory Deed.halts = refl
+perform-busy count s memory (Deed.faults r) = refl
+perform-busy count s memory (Deed.sends t w c) = refl
 
 module _ (m : Map) (g : Grid) where
   abbrev Counts : State → List ℕ → ℕ → Type 0
@@ -79,7 +79,7 @@ module _ (m : Map) (g : Grid) where
       let rest = batch-counts (o .state) (o .memory) n in
       let b : is-idle (o .answer) ≡ false =
       ap (λ x. is-idle (x .answer)) (step-acts m g s memory e)
-      ∙ perform-busy (m .count) s (s .active) _ (attempt m g s memory .deed) in
+      ∙ perform-busy (m .count) s _ (attempt m g s memory .deed) in
       rw (e, b) (ap (λ k. k + 1) (rest .0), rest .1, rest .2))
 
   pub batch-ends :

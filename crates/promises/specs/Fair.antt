@@ -67,22 +67,21 @@ pub data Moved (count : ℕ) (s : State) : State → ℕ → Type 0 where
   switched : (t : State) → t .active ≡ s .active → Moved count s (switch count t) 1
 
 deed-honest :
-    (count : ℕ) (s : State) (d : ℕ) (memory : List ℕ) (x : Deed)
-    → Moved count s (perform count s d memory x .state) (deed-switches x)
+    (count : ℕ) (s : State) (memory : List ℕ) (x : Deed) → Moved count s (perform count s memory x .state) (deed-switches x)
 unfolding perform sent deed-switches
-deed-honest count s d memory (Deed.runs c) = Moved.stays refl
-deed-honest count s d memory (Deed.gives-way c) = Moved.switched _ refl
-deed-honest count s d memory Deed.waits = Moved.switched _ refl
-deed-honest count s d memory Deed.halts = Moved.switched _ refl
-deed-honest count s d memory (Deed.faults r) = Moved.switched _ refl
-deed-honest count s d memory (Deed.sends t w c) =
+deed-honest count s memory (Deed.runs c) = Moved.stays refl
+deed-honest count s memory (Deed.gives-way c) = Moved.switched _ refl
+deed-honest count s memory Deed.waits = Moved.switched _ refl
+deed-honest count s memory Deed.halts = Moved.switched _ refl
+deed-honest count s memory (Deed.faults r) = Moved.switched _ refl
+deed-honest count s memory (Deed.sends t w c) =
     either (λ x. Moved count s x 0) (full (context s t .mailbox)) (Moved.stays refl) (Moved.stays refl)
 
 pub honest :
     (m : Map) (g : Grid) (s : State) (memory : List ℕ) (e : Event) → 1 ≤ s .active
     → Moved (m .count) s (event m g s memory e .state) (event-switches m g s memory e)
 unfolding event step tick word-in event-switches
-honest m g s memory Event.Step h = rw (ne-eqb (s .active) 0 (omega arith)) (deed-honest (m .count) s (s .active) _ _)
+honest m g s memory Event.Step h = rw (ne-eqb (s .active) 0 (omega arith)) (deed-honest (m .count) s _ _)
 honest m g s memory Event.Tick h = rw (ne-eqb (s .active) 0 (omega arith)) (Moved.switched s refl)
 honest m g s memory (Event.WordIn b w) h =
     let P : Outcome → Type 0 = λ o. Moved (m .count) s (o .state) 0 in

@@ -17,10 +17,10 @@ use lib.Dec.{eqb}
 use lib.ListN.{length, getD, set}
 use lib.Seq.{sets, getD-set-other, length-sets}
 use borrow.Author.Tests.{eqb-false}
-use Rattle.model.specs.BasicsLaws.{by-bool, by-option, true-false}
+use Rattle.model.specs.BasicsLaws.{by-bool, by-option, either, true-false}
 use Rattle.model.specs.Map.{Grid, is-domain, Rights, rights, domain, may, lowest}
 use Rattle.model.specs.MapLaws.{lowest-none, may-read}
-use Rattle.model.specs.States.{with-status, context, put, switch, full}
+use Rattle.model.specs.States.{with-status, context, own, put-own, switch, full}
 use Rattle.model.specs.Instructions.{Plan, Deed, Done, kept, peek, carry, plan}
 use Rattle.model.specs.Events.{Outcome, gives, sent, perform, attempt, step, tick, word-in, event}
 use Rattle.model.specs.EventsLaws.{acts, step-idle, step-acts}
@@ -80,15 +80,15 @@ module _ (q : Rights) (memory memory′ : List ℕ) where
 
 -- a deed's answer and state do not look at the memory, which it hands on
 perform-hands-on :
-    (count : ℕ) (s : State) (d : ℕ) (memory : List ℕ) (x : Deed)
-    → perform count s d memory x ≡ gives (perform count s d [] x .answer) (perform count s d [] x .state) memory
+    (count : ℕ) (s : State) (memory : List ℕ) (x : Deed)
+    → perform count s memory x ≡ gives (perform count s [] x .answer) (perform count s [] x .state) memory
 unfolding perform
-perform-hands-on count s d memory (Deed.runs c) = refl
-perform-hands-on count s d memory (Deed.gives-way c) = refl
-perform-hands-on count s d memory Deed.waits = refl
-perform-hands-on count s d memory Deed.halts = refl
-perform-hands-on count s d memory (Deed.faults r) = refl
-perform-hands-on count s d memory (Deed.sends t w c) = refl
+perform-hands-on count s memory (Deed.runs c) = refl
+perform-hands-on count s memory (Deed.gives-way c) = refl
+perform-hands-on count s memory Deed.waits = refl
+perform-hands-on count s memory Deed.halts = refl
+perform-hands-on count s memory (Deed.faults r) = refl
+perform-hands-on count s memory (Deed.sends t w c) = refl
 
 -- two outcomes that differ in nothing but what the memories did before, where the domain may not read
 pub record Isolated (writes : ℕ → Bool) (memory memory′ : List ℕ) (o o′ : Outcome) : Type 0 where
@@ -101,7 +101,7 @@ acts-alike :
     → x .deed ≡ x′ .deed → Set writes memory (x .memory) memory′ (x′ .memory)
     → Isolated writes memory memory′ (acts count s x) (acts count s x′)
 acts-alike writes memory memory′ count s x x′ e w =
-    rw (perform-hands-on count s (s .active) (x .memory) (x .deed), perform-hands-on count s (s .active) (x′ .memory) (x′ .deed), e)
+    rw (perform-hands-on count s (x .memory) (x .deed), perform-hands-on count s (x′ .memory) (x′ .deed), e)
     (record { answers = refl; states = refl; written = w })
 
 pub isolated :
@@ -115,7 +115,7 @@ isolated m g s memory memory′ same =
     (record { answers = refl; states = refl; written = unset _ memory memory′ }))
     (λ e.
     let h = carry-alike (rights m g (s .active)) memory memory′ (λ k a x. same a (may-read (domain m (s .active)) k a x))
-    (plan (context s (s .active))) in
+    (plan (own s)) in
     rw (step-acts m g s memory e, step-acts m g s memory′ e)
     (acts-alike _ memory memory′ (m .count) s (attempt m g s memory) (attempt m g s memory′) (h .0) (h .1)))
 
@@ -144,13 +144,14 @@ as-long m g s memory =
 
 pub tick-elsewhere : (m : Map) (g : Grid) (s : State) (memory : List ℕ) → event m g s memory Event.Tick .memory ≡ memory
 unfolding event tick
-tick-elsewhere m g s memory = by-bool (eqb (s .active) 0) (λ e. rw e) (λ e. rw e)
+tick-elsewhere m g s memory = either (λ (o : Outcome). o .memory ≡ memory) (eqb (s .active) 0) refl refl
 
 pub word-elsewhere :
     (m : Map) (g : Grid) (s : State) (memory : List ℕ) (b w : ℕ) → event m g s memory (Event.WordIn b w) .memory ≡ memory
 unfolding event word-in
 word-elsewhere m g s memory b w =
-    by-bool (is-domain (m .count) b) (λ e. by-bool (full (context s b .mailbox)) (λ f. rw (e, f)) (λ f. rw (e, f))) (λ e. rw e)
+    let P : Outcome → Type 0 = λ o. o .memory ≡ memory in
+    either P (is-domain (m .count) b) (either P (full (context s b .mailbox)) refl refl) refl
 
 -- ---- a fault
 
@@ -167,21 +168,24 @@ carry-fault q memory (Plan.pass t w c) r =
 carry-fault q memory (Plan.end x) r = ap (kept memory)
 
 perform-fault :
-    (count : ℕ) (s : State) (d : ℕ) (memory : List ℕ) (x : Deed) (f : ℕ) (r : Reason)
-    → perform count s d memory x .answer ≡ Answer.Faulted f r → (d ≡ f) × (x ≡ Deed.faults r)
+    (count : ℕ) (s : State) (memory : List ℕ) (x : Deed) (d : ℕ) (r : Reason)
+    → perform count s memory x .answer ≡ Answer.Faulted d r → (s .active ≡ d) × (x ≡ Deed.faults r)
 unfolding perform
-perform-fault count s d memory (Deed.runs c) f r e = ((cc), (cc))
-perform-fault count s d memory (Deed.gives-way c) f r e = ((cc), (cc))
-perform-fault count s d memory Deed.waits f r e = ((cc), (cc))
-perform-fault count s d memory Deed.halts f r e = ((cc), (cc))
-perform-fault count s d memory (Deed.faults y) f r e = ((cc), (cc))
-perform-fault count s d memory (Deed.sends t w c) f r e = ((cc), (cc))
+perform-fault count s memory (Deed.runs c) d r e = ((cc), (cc))
+perform-fault count s memory (Deed.gives-way c) d r e = ((cc), (cc))
+perform-fault count s memory Deed.waits d r e = ((cc), (cc))
+perform-fault count s memory Deed.halts d r e = ((cc), (cc))
+perform-fault count s memory (Deed.faults y) d r e = ((cc), (cc))
+perform-fault count s memory (Deed.sends t w c) d r e = ((cc), (cc))
 
 -- the outcome of a fault of the active domain, and of nothing else
 abbrev pub faulted : ℕ → State → List ℕ → Reason → Outcome
 faulted count s memory r =
     gives (Answer.Faulted (s .active) r)
-    (switch count (put s (s .active) (with-status (context s (s .active)) (Status.Faulted r)))) memory
+    (switch count (put-own s (with-status (own s) (Status.Faulted r)))) memory
+
+abbrev Explained : ℕ → State → List ℕ → ℕ → Reason → Outcome → Type 0
+Explained count s memory d r o = o .answer ≡ Answer.Faulted d r → (s .active ≡ d) × (o ≡ faulted count s memory r)
 
 pub fault-only :
     (m : Map) (g : Grid) (s : State) (memory : List ℕ) (e : Event) (d : ℕ) (r : Reason)
@@ -194,11 +198,12 @@ fault-only m g s memory Event.Step d r =
     (λ e h.
     let a = step-acts m g s memory e in
     let x = attempt m g s memory in
-    let f = perform-fault (m .count) s (s .active) (x .memory) (x .deed) d r (sym (ap (λ o. o .answer) a) ∙ h) in
-    (f .0, a ∙ ap (acts (m .count) s) (carry-fault (rights m g (s .active)) memory (plan (context s (s .active))) r (f .1))))
+    let f = perform-fault (m .count) s (x .memory) (x .deed) d r (sym (ap (λ o. o .answer) a) ∙ h) in
+    (f .0, a ∙ ap (acts (m .count) s) (carry-fault (rights m g (s .active)) memory (plan (own s)) r (f .1))))
 fault-only m g s memory Event.Tick d r =
-    by-bool (eqb (s .active) 0) (λ e. rw e (λ h. ((cc), (cc)))) (λ e. rw e (λ h. ((cc), (cc))))
+    either (Explained (m .count) s memory d r) (eqb (s .active) 0) (λ h. ((cc), (cc))) (λ h. ((cc), (cc)))
 fault-only m g s memory (Event.WordIn b w) d r =
-    by-bool (is-domain (m .count) b)
-    (λ e. by-bool (full (context s b .mailbox)) (λ f. rw (e, f) (λ h. ((cc), (cc)))) (λ f. rw (e, f) (λ h. ((cc), (cc)))))
-    (λ e. rw e (λ h. ((cc), (cc))))
+    let P : Outcome → Type 0 = Explained (m .count) s memory d r in
+    either P (is-domain (m .count) b)
+    (either P (full (context s b .mailbox)) (λ h. ((cc), (cc))) (λ h. ((cc), (cc))))
+    (λ h. ((cc), (cc)))

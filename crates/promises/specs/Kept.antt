@@ -13,7 +13,7 @@ use borrow.Author.Tests.{leb-true, eqb-false, eq-eqb}
 use Rattle.model.specs.Basics.{if_then_else_}
 use Rattle.model.specs.Map.{most, Grid, Rights, is-domain, rights, granted}
 use Rattle.model.specs.Refusals.{accepts}
-use Rattle.model.specs.States.{full, is-ready, is-waiting, woken, with-status, received, context, put, start, well-formed, switch}
+use Rattle.model.specs.States.{full, is-ready, is-waiting, woken, with-status, received, context, own, put-own, start, well-formed, switch}
 use Rattle.model.specs.Instructions.{Deed, plan}
 use Rattle.model.specs.Events.{Outcome, delivered, sent, perform, step, tick, roused, word-in, event, run}
 use Rattle.model.specs.BasicsLaws.{by-bool, either, and-right}
@@ -54,8 +54,8 @@ delivered-sound {count} {s} t w from h l k b f =
 
 -- the active domain's context with other registers and counter, or with its box emptied
 ran-sound :
-    {count : ℕ} {s : State} (c : Context) → Sound count s → 1 ≤ s .active → Alike (context s (s .active)) c
-    → Sound count (put s (s .active) c)
+    {count : ℕ} {s : State} (c : Context) → Sound count s → 1 ≤ s .active → Alike (own s) c
+    → Sound count (put-own s c)
 ran-sound {count} {s} c h a k =
     sound-put (s .active) c h a (h .led .active) (alike-good count k (h .steady .held .present (s .active) a (h .led .active)))
     (λ z. absurd (omega arith)) (λ r. rw (alike-status k) r)
@@ -63,16 +63,16 @@ ran-sound {count} {s} c h a k =
 -- its status set, and a switch
 stopped-sound :
     {count : ℕ} {s : State} (x : Status) → Sound count s → 1 ≤ s .active
-    → is-waiting x && full (context s (s .active) .mailbox) ≡ false
-    → Sound count (switch count (put s (s .active) (with-status (context s (s .active)) x)))
+    → is-waiting x && full (own s .mailbox) ≡ false
+    → Sound count (switch count (put-own s (with-status (own s) x)))
 stopped-sound {count} {s} x h a e =
     let g = h .steady .held .present (s .active) a (h .led .active) in
-    let c = status-good count (context s (s .active)) x g e in
+    let c = status-good count (own s) x g e in
     sound-switch (steady-put (s .active) _ (h .steady) a (h .led .active) c) (h .led .active)
 
 sent-sound :
     {count : ℕ} {s : State} (t w : ℕ) (c : Context) → Sound count s → 1 ≤ s .active → is-domain count t ≡ true
-    → Alike (context s (s .active)) c → Sound count (sent s (s .active) t w c)
+    → Alike (own s) c → Sound count (sent s t w c)
 unfolding sent
 sent-sound {count} {s} t w c h a e k =
     let r = in-range count t e in
@@ -81,8 +81,8 @@ sent-sound {count} {s} t w c h a e k =
 
 perform-keeps :
     (q : Rights) (count n : ℕ) (s : State) (memory : List ℕ) (x : Deed) → Sound count s → 1 ≤ s .active
-    → ((t : ℕ) → q .sends t ≡ true → is-domain count t ≡ true) → Fits q (context s (s .active)) x → length memory ≡ n
-    → Keeps count n (perform count s (s .active) memory x)
+    → ((t : ℕ) → q .sends t ≡ true → is-domain count t ≡ true) → Fits q (own s) x → length memory ≡ n
+    → Keeps count n (perform count s memory x)
 unfolding perform
 perform-keeps q count n s memory (Deed.runs c) h a p k l = (ran-sound c h a k, l)
 perform-keeps q count n s memory (Deed.gives-way c) h a p k l = (sound-switch (ran-sound c h a k .steady) (h .led .active), l)
@@ -96,7 +96,7 @@ step-keeps :
 unfolding step
 step-keeps m g s memory h =
     let q = rights m g (s .active) in
-    let c = context s (s .active) in
+    let c = own s in
     by-bool (eqb (s .active) 0) (λ e. rw e (h, refl))
     (λ e. let f : s .active ≢ 0 = eqb-false (s .active) 0 e in
     rw e (perform-keeps q (m .count) (length memory) s _ _ h (omega arith) (granted-domain (m .count) g (s .active))

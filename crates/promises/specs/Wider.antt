@@ -23,7 +23,7 @@ use Rattle.model.specs.MapLaws.{lowest-wider}
 use Rattle.model.specs.Refusals.{accepts}
 use Rattle.model.specs.RefusalsLaws.{acceptable}
 use Rattle.model.specs.Instructions.{Plan, Deed, Done, kept, denied, peek, carry, plan}
-use Rattle.model.specs.States.{context, at-entry, blank, seated, start}
+use Rattle.model.specs.States.{own, at-entry, blank, seated, start}
 use Rattle.model.specs.EventsLaws.{acts, step-idle, step-acts, event-bound}
 use Rattle.model.specs.Events.{perform, step, tick, word-in, event, then-run, run}
 use Rattle.model.specs.declared.map.Map.{Map}
@@ -132,7 +132,7 @@ module _ (m : Map) (g : Grid) (m′ : Map) (g′ : Grid) (w : Wider m g m′ g�
       (λ f. inl (step-acts m g s memory e ∙ ap₂ (λ n x. acts n s x) (w .count) f ∙ sym (step-acts m′ g′ s memory e)))
       (λ v. inr (v .0, ap (λ o. o .answer) (step-acts m g s memory e ∙ ap (acts (m .count) s) (v .1)), v .2))
       (carry-wider (rights m g (s .active)) (rights m′ g′ (s .active))
-      (broader (s .active) (omega (arith, eqb-false (s .active) 0 e)) h) memory (plan (context s (s .active)))))
+      (broader (s .active) (omega (arith, eqb-false (s .active) 0 e)) h) memory (plan (own s))))
 
   event-wider :
       (s : State) (memory : List ℕ) (e : Event) → s .active ≤ m .count
