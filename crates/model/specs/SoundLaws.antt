@@ -15,7 +15,7 @@ use lib.Seq.{getD-set-same, getD-set-other}
 use borrow.Author.Tests.{eqb-true, eqb-false}
 use Rattle.model.specs.Map.{most, absent}
 use Rattle.model.specs.BasicsLaws.{by-bool}
-use Rattle.model.specs.States.{blank, is-ready, context, put, with-active, ready, at-entry, seated, start, box-good, context-good, zeros, is-blank, well-formed, switch}
+use Rattle.model.specs.States.{blank, missing, is-ready, context, put, with-active, ready, at-entry, seated, start, box-good, context-good, zeros, is-blank, well-formed, switch}
 use Rattle.model.specs.StatesLaws.{put-long, each-put, ready-put, Led, Held, good, formed}
 use Rattle.model.specs.SwitchLaws.{switch-led}
 use Rattle.model.specs.declared.map.Map.{Map}
@@ -97,35 +97,35 @@ seated-long cs m i (suc n) = seated-long _ m (i + 1) n ∙ length-set cs i _
 
 seated-other :
     (cs : List Context) (m : Map) (i n k : ℕ) → ((j : ℕ) → j < n → k ≢ i + j)
-    → getD (seated cs m i n) k blank ≡ getD cs k blank
+    → getD (seated cs m i n) k missing ≡ getD cs k missing
 unfolding seated
 seated-other cs m i zero k f = refl
 seated-other cs m i (suc n) k f =
     seated-other _ m (i + 1) n k (λ j h. omega (arith, f (suc j) (omega arith)))
-    ∙ getD-set-other cs i k _ blank (omega (arith, f 0 (omega arith)))
+    ∙ getD-set-other cs i k _ missing (omega (arith, f 0 (omega arith)))
 
 seated-at :
     (cs : List Context) (m : Map) (i n k : ℕ) → i + n ≤ length cs → i ≤ k → k < i + n
-    → getD (seated cs m i n) k blank ≡ at-entry (getD (m .domains) k absent .entry)
+    → getD (seated cs m i n) k missing ≡ at-entry (getD (m .domains) k absent .entry)
 unfolding seated
 seated-at cs m i zero k h a b = absurd (omega arith)
 seated-at cs m i (suc n) k h a b =
     let c = at-entry (getD (m .domains) i absent .entry) in
     by-bool (eqb k i)
     (λ t. rw (eqb-true k i t)
-    (seated-other (set cs i c) m (i + 1) n i (λ j _. omega arith) ∙ getD-set-same cs i c blank (omega arith)))
+    (seated-other (set cs i c) m (i + 1) n i (λ j _. omega arith) ∙ getD-set-same cs i c missing (omega arith)))
     (λ t. let f : k ≢ i = eqb-false k i t in
     seated-at (set cs i c) m (i + 1) n k (rw length-set (omega arith)) (omega arith) (omega arith))
 
 at-start :
-    (m : Map) (k : ℕ) → m .count ≤ most → k < m .count → getD (start m .contexts) k blank ≡ at-entry (getD (m .domains) k absent .entry)
+    (m : Map) (k : ℕ) → m .count ≤ most → k < m .count → getD (start m .contexts) k missing ≡ at-entry (getD (m .domains) k absent .entry)
 unfolding start
 at-start m k f h = seated-at (replicate most blank) m 0 (m .count) k (omega arith) (omega arith) (omega arith)
 
-past-start : (m : Map) (k : ℕ) → m .count ≤ k → k < most → getD (start m .contexts) k blank ≡ blank
+past-start : (m : Map) (k : ℕ) → m .count ≤ k → k < most → getD (start m .contexts) k missing ≡ blank
 unfolding start
 past-start m k f h =
-    seated-other (replicate most blank) m 0 (m .count) k (λ j q. omega arith) ∙ getD-replicate most k blank blank h
+    seated-other (replicate most blank) m 0 (m .count) k (λ j q. omega arith) ∙ getD-replicate most k blank missing h
 
 pub start-sound : (m : Map) → 1 ≤ m .count → m .count ≤ most → Sound (m .count) (start m)
 unfolding start context-good box-good is-blank zeros

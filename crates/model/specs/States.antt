@@ -49,6 +49,10 @@ take-word b = empty-box
 abbrev pub blank : Context
 blank = record { registers = replicate 8 0; counter = 0; status = Status.Halted; mailbox = empty-box }
 
+-- what a place past the last context reads as, in the code too; no state has a context there
+abbrev pub missing : Context
+missing = record { registers = []; counter = 0; status = Status.Halted; mailbox = empty-box }
+
 abbrev pub register : Context → ℕ → ℕ
 register c r = getD (c .registers) r 0
 
@@ -93,7 +97,7 @@ received c w from = with-status (with-box c (fill (c .mailbox) w from)) (woken (
 -- ---- a state: the context of domain d; the state with another in its place, or with another domain active
 
 abbrev pub context : State → ℕ → Context
-context s d = getD (s .contexts) (d - 1) blank
+context s d = getD (s .contexts) (d - 1) missing
 
 abbrev pub put : State → ℕ → Context → State
 put s d c = record { active = s .active; contexts = set (s .contexts) (d - 1) c }
@@ -131,7 +135,7 @@ start m = record { active = 1; contexts = seated (replicate most blank) m 0 (m .
 -- some of the first n domains is ready
 unfoldable pub any-ready : State → ℕ → Bool
 any-ready s zero = false
-any-ready s (suc n) = let rest = any-ready s n in is-ready (getD (s .contexts) n blank .status) || rest
+any-ready s (suc n) = let rest = any-ready s n in is-ready (getD (s .contexts) n missing .status) || rest
 
 -- "active is 0 to N; it is 0 exactly if no domain is ready, else that domain is ready"
 unfoldable pub active-good : ℕ → State → Bool
@@ -160,7 +164,7 @@ is-blank c =
 unfoldable pub contexts-good : ℕ → State → ℕ → Bool
 contexts-good count s zero = true
 contexts-good count s (suc n) =
-    let c = getD (s .contexts) n blank in
+    let c = getD (s .contexts) n missing in
     let rest = contexts-good count s n in
     (if ltb n count then context-good count c else is-blank c) && rest
 

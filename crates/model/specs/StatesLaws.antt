@@ -15,7 +15,7 @@ use borrow.Author.Tests.{ltb-true, ltb-false, leb-true, eqb-true, eqb-false, not
 use Rattle.model.specs.Basics.{if_then_else_}
 use Rattle.model.specs.Map.{most}
 use Rattle.model.specs.BasicsLaws.{by-bool, and-left, and-right, and-both, or-neither}
-use Rattle.model.specs.States.{full, fill, take-word, blank, with-status, is-ready, is-waiting, woken, received, context, put, ready, any-ready, active-good, box-good, context-good, is-blank, contexts-good, well-formed}
+use Rattle.model.specs.States.{full, fill, take-word, missing, with-status, is-ready, is-waiting, woken, received, context, put, ready, any-ready, active-good, box-good, context-good, is-blank, contexts-good, well-formed}
 use Rattle.model.specs.declared.state.Status.{Status}
 use Rattle.model.specs.declared.state.Mailbox.{Mailbox}
 use Rattle.model.specs.declared.state.Context.{Context}
@@ -24,10 +24,10 @@ use Rattle.model.specs.declared.state.State.{State}
 -- ---- a context is put
 
 pub context-same : (s : State) (d : ℕ) (c : Context) → 1 ≤ d → d ≤ length (s .contexts) → context (put s d c) d ≡ c
-context-same s d c l h = getD-set-same (s .contexts) (d - 1) c blank (omega arith)
+context-same s d c l h = getD-set-same (s .contexts) (d - 1) c missing (omega arith)
 
 pub context-other : (s : State) (d e : ℕ) (c : Context) → 1 ≤ d → 1 ≤ e → e ≢ d → context (put s d c) e ≡ context s e
-context-other s d e c l h n = getD-set-other (s .contexts) (d - 1) (e - 1) c blank (omega arith)
+context-other s d e c l h n = getD-set-other (s .contexts) (d - 1) (e - 1) c missing (omega arith)
 
 pub put-long : (s : State) (d : ℕ) (c : Context) → length (put s d c .contexts) ≡ length (s .contexts)
 put-long s d c = length-set (s .contexts) (d - 1) c
@@ -49,7 +49,7 @@ ready-put v s d e c l h k r f =
     each-put (λ x. is-ready (x .status) ≡ v) s d e c l h k (λ q. f (rw q at r)) (λ _. r)
 
 -- the context of domain n + 1 stands at place n
-place : (s : State) (n : ℕ) → getD (s .contexts) n blank ≡ context s (n + 1)
+place : (s : State) (n : ℕ) → getD (s .contexts) n missing ≡ context s (n + 1)
 place s n = let e : n + 1 - 1 ≡ n = omega arith in rw e
 
 -- ---- "Well formed"
@@ -58,7 +58,7 @@ pub none-ready : (s : State) (n d : ℕ) → any-ready s n ≡ false → 1 ≤ d
 unfolding any-ready
 none-ready s zero d e l h = absurd (omega arith)
 none-ready s (suc n) d e l h =
-    let p = or-neither (is-ready (getD (s .contexts) n blank .status)) (any-ready s n) e in
+    let p = or-neither (is-ready (getD (s .contexts) n missing .status)) (any-ready s n) e in
     by-bool (eqb d (n + 1))
     (λ t. rw (eqb-true d (n + 1) t, ← place s n) (p .0))
     (λ t. let f : d ≢ n + 1 = eqb-false d (n + 1) t in none-ready s n d (p .1) l (omega arith))
@@ -72,7 +72,7 @@ not-any-ready s (suc n) h =
 -- the context at place k, one of a domain or past them
 abbrev place-good : ℕ → State → ℕ → Bool
 place-good count s k =
-    if ltb k count then context-good count (getD (s .contexts) k blank) else is-blank (getD (s .contexts) k blank)
+    if ltb k count then context-good count (getD (s .contexts) k missing) else is-blank (getD (s .contexts) k missing)
 
 place-at : (count : ℕ) (s : State) (n k : ℕ) → contexts-good count s n ≡ true → k < n → place-good count s k ≡ true
 unfolding contexts-good
