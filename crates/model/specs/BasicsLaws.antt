@@ -4,10 +4,10 @@
 --     and-left, and-right   what a conjunction that holds tells
 --     number-bytes, bytes-number   a number's four bytes read back, and four bytes written back
 -- Assumes nothing.
-use Prim.Native.Nat.{ℕ, zero, suc, _+_, _*_, _/_, _%_, _^_, _<_, _≤_}
-use mathlib.Core.Path.{_≡_, refl, sym, ap, _∙_}
-use mathlib.Core.Bool.{Bool, true, false, _&&_, _||_, not}
-use mathlib.Core.List.{List, [], _∷_, _++_}
+use Prim.Native.Nat.{ℕ, _+_, _*_, _/_, _%_, _^_, _<_}
+use mathlib.Core.Path.{_≡_, refl}
+use mathlib.Core.Bool.{Bool, true, false, _&&_, _||_}
+use mathlib.Core.List.{[], _∷_}
 use mathlib.Core.Option.{Option, none, some}
 use native.Mathlib.Nat.{mod-eq-of-lt}
 use native.Mathlib.Omega.{arith}
@@ -37,10 +37,6 @@ and-right false b e = cc
 
 pub and-both : {a b : Bool} → a ≡ true → b ≡ true → a && b ≡ true
 and-both e f = rw e f
-
-pub or-right : (a b : Bool) → a || b ≡ true → a ≡ false → b ≡ true
-or-right true b e f = cc
-or-right false b e f = e
 
 pub or-neither : (a b : Bool) → a || b ≡ false → (a ≡ false) × (b ≡ false)
 or-neither true b e = (e, cc)

@@ -1,7 +1,7 @@
 -- Document 01, "Events".
 -- Assumes nothing.
 use Prim.Native.Nat.{ℕ, zero, suc, _+_}
-use mathlib.Core.Bool.{Bool, true, false, _&&_}
+use mathlib.Core.Bool.{_&&_}
 use mathlib.Core.List.{List, [], _∷_}
 use lib.Dec.{leb, eqb}
 use lib.ListN.{length, getD, drop}
@@ -10,7 +10,6 @@ use Rattle.model.specs.Map.{Grid, is-domain, rights}
 use Rattle.model.specs.States.{full, is-waiting, set-register, with-status, received, context, put, own, put-own, with-active, switch}
 use Rattle.model.specs.Instructions.{Deed, Done, plan, carry}
 use Rattle.model.specs.declared.map.Map.{Map}
-use Rattle.model.specs.declared.state.Reason.{Reason}
 use Rattle.model.specs.declared.state.Status.{Status}
 use Rattle.model.specs.declared.state.Context.{Context}
 use Rattle.model.specs.declared.state.State.{State}

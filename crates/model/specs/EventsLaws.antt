@@ -1,7 +1,7 @@
 -- Laws of Events: a step on an idle node and on one that is not; the active domain stays one of the map's, or 0.
 -- Assumes nothing.
-use Prim.Native.Nat.{ℕ, zero, suc, _≤_, _<_}
-use mathlib.Core.Path.{_≡_, refl, sym}
+use Prim.Native.Nat.{ℕ, _≤_}
+use mathlib.Core.Path.{_≡_}
 use mathlib.Core.Bool.{true, false, _&&_}
 use mathlib.Core.List.{List}
 use lib.Dec.{eqb}
@@ -11,7 +11,7 @@ use Rattle.model.specs.MapLaws.{in-range}
 use Rattle.model.specs.SwitchLaws.{found-within}
 use Rattle.model.specs.States.{full, is-waiting, context, switch}
 use Rattle.model.specs.Instructions.{Deed, Done}
-use Rattle.model.specs.Events.{Outcome, gives, sent, perform, attempt, step, tick, word-in, event, delivered, roused}
+use Rattle.model.specs.Events.{Outcome, gives, sent, perform, attempt, step, tick, word-in, event}
 use Rattle.model.specs.declared.event.Event.{Event}
 use Rattle.model.specs.declared.map.Map.{Map}
 use Rattle.model.specs.declared.state.State.{State}

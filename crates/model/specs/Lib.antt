@@ -1,3 +1,15 @@
+-- The meaning of document 01, a file for each of its sections, with its laws in files beside it:
+--     Basics         the words that all of them use
+--     Map            "Map and access"
+--     Refusals       "Refusal numbers": the numbers, and how a map is tested
+--     Sheet          "The sheet"; its laws by subject, the grid, channel records, one record, domain records
+--     States         "The state"; its laws by subject, contexts, the switch, what keeps a state well formed
+--     Table          "Instructions": the table
+--     Instructions   "Instructions": what the table's words mean
+--     Events         "Events"
+--     Calls          the public calls: the tests that each makes, and what it returns and leaves
+--     Whole          one name that opens all definitions
+--     Samples        the definitions at both sides of an edge
 pub mod Basics
 pub mod BasicsLaws
 pub mod Map

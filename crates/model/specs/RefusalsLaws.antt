@@ -1,12 +1,12 @@
 -- Laws of Refusals: what acceptance tells.
 --     Acceptable            the facts that `accepts m g ≡ Accepted` gives, by `acceptable`, and that give it, by `accept`
 -- Assumes nothing.
-use Prim.Native.Nat.{ℕ, zero, suc, _+_, _-_, _*_, _≤_, _<_}
-use mathlib.Core.Path.{_≡_, refl, sym, ap, _∙_}
+use Prim.Native.Nat.{ℕ, zero, suc, _+_, _*_, _≤_, _<_}
+use mathlib.Core.Path.{_≡_, refl}
 use mathlib.Core.Bool.{Bool, true, false, _&&_, _||_, not}
 use native.Mathlib.Omega.{arith}
 use native.Mathlib.Nat.{add-zero, zero-add}
-use lib.Dec.{leb, ltb, eqb}
+use lib.Dec.{leb, ltb}
 use lib.ListN.{getD}
 use borrow.Author.Tests.{ltb-true, ltb-false, leb-true, le-leb}
 use Rattle.model.specs.Map.{most, absent, inside, overlaps, Grid}
@@ -166,14 +166,6 @@ placed m i d e =
       data-clear = and-left (clear m (d .«data») i) _ f;
       split = and-right (clear m (d .«data») i) _ f;
     }
-
-pub place-domain : (m : Map) (i : ℕ) (d : Domain) → Placed m i d → domain-verdict m i d ≡ Verdict.Accepted
-unfolding domain-verdict
-place-domain m i d p =
-    check-both Refusal.Bounds (p .code)
-    (check-both Refusal.Bounds (p .«data»)
-    (check-both Refusal.Entry (p .entry)
-    (check-both Refusal.Overlap (p .code-clear) (rw (p .data-clear, p .split)))))
 
 pub clear-kernel : (m : Map) (r : Region) (i : ℕ) → clear m r i ≡ true → not (overlaps r (m .kernel)) ≡ true
 unfolding clear

@@ -3,13 +3,13 @@
 -- Assumes nothing.
 use Prim.Native.Nat.{ℕ}
 use mathlib.Core.Path.{_≡_, refl}
-use mathlib.Core.Bool.{Bool, true, false}
+use mathlib.Core.Bool.{true, false}
 use mathlib.Core.List.{List, [], _∷_, map}
 use mathlib.Core.Option.{Option, none, some}
 use lib.ListN.{replicate}
 use Rattle.model.specs.Map.{most, inside, overlaps, absent, no-grid, may, granted, lowest}
 use Rattle.model.specs.Sheet.{Found, mark, channels-read}
-use Rattle.model.specs.States.{empty-box, fill, blank, register, with-status, with-box, woken, received, switch, well-formed}
+use Rattle.model.specs.States.{empty-box, fill, blank, register, with-status, with-box, woken, switch, well-formed}
 use Rattle.model.specs.Instructions.{Deed, Plan, work}
 use Rattle.model.specs.Whole.{whole}
 use Rattle.model.specs.declared.map.Region.{Region}

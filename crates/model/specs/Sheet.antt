@@ -1,13 +1,13 @@
 -- Document 01, "The sheet".
 -- Assumes nothing.
 use Prim.Native.Nat.{ℕ, zero, suc, _+_, _-_, _*_}
-use mathlib.Core.Bool.{Bool, true, false, _&&_}
+use mathlib.Core.Bool.{Bool, true, _&&_}
 use mathlib.Core.List.{List, [], _∷_, _++_}
 use lib.Dec.{leb, eqb}
 use lib.ListN.{length, getD, set, take, drop}
 use Rattle.model.specs.Basics.{if_then_else_, bytes, number}
 use Rattle.model.specs.Map.{most, absent, no-map, Grid, no-grid}
-use Rattle.model.specs.Refusals.{check, _▸_, sized, within, domain-verdict, cell, from, to, is-channel}
+use Rattle.model.specs.Refusals.{check, sized, within, domain-verdict, cell, from, to, is-channel}
 use Rattle.model.specs.declared.map.Region.{Region}
 use Rattle.model.specs.declared.map.Domain.{Domain}
 use Rattle.model.specs.declared.map.Map.{Map}

@@ -15,7 +15,7 @@ use lib.Seq.{getD-set-same, getD-set-other}
 use borrow.Author.Tests.{eqb-true, eqb-false}
 use Rattle.model.specs.Map.{most, absent}
 use Rattle.model.specs.BasicsLaws.{by-bool}
-use Rattle.model.specs.States.{blank, missing, is-ready, context, put, with-active, ready, at-entry, seated, start, box-good, context-good, zeros, is-blank, well-formed, switch}
+use Rattle.model.specs.States.{blank, missing, is-ready, put, with-active, ready, at-entry, seated, start, box-good, context-good, zeros, is-blank, well-formed, switch}
 use Rattle.model.specs.StatesLaws.{put-long, each-put, ready-put, Led, Held, good, formed}
 use Rattle.model.specs.SwitchLaws.{switch-led}
 use Rattle.model.specs.declared.map.Map.{Map}

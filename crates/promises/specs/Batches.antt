@@ -7,7 +7,6 @@ use Prim.Native.Nat.{ℕ, zero, suc, _+_}
 use mathlib.Core.Path.{_≡_, refl, sym, ap, _∙_}
 use mathlib.Core.Bool.{Bool, true, false}
 use mathlib.Core.List.{List, [], _∷_}
-use native.Mathlib.Omega.{arith}
 use native.Mathlib.Numerals.{add-one}
 use lib.Dec.{eqb, eqb·zero-suc, eqb·suc-suc}
 use lib.ListN.{replicate}
@@ -15,8 +14,8 @@ use Rattle.model.specs.Basics.{if_then_else_}
 use Rattle.model.specs.BasicsLaws.{by-bool}
 use Rattle.model.specs.Map.{Grid}
 use Rattle.model.specs.Instructions.{Deed}
-use Rattle.model.specs.Events.{perform, attempt, step, event, run, one-more, batch}
-use Rattle.model.specs.EventsLaws.{acts, step-idle, step-acts}
+use Rattle.model.specs.Events.{perform, attempt, step, event, run, batch}
+use Rattle.model.specs.EventsLaws.{step-idle, step-acts}
 use Rattle.model.specs.declared.map.Map.{Map}
 use Rattle.model.specs.declared.state.State.{State}
 use Rattle.model.specs.declared.event.Event.{Event}

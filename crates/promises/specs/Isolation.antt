@@ -2,35 +2,31 @@
 --     isolated      what a step does depends on memory only where the active domain may read (by lemma 7 also: fetch), and it sets
 --                   a run of bytes each of which the domain may write, or none
 --     untouched     so a byte that the domain may not write is as it was
---     fault-only    a fault sets the status, and the switch the active domain; nothing else changes
---     elsewhere     tick and word-in change no memory
+--     tick-elsewhere, word-elsewhere   tick and word-in change no memory
+--     step-names    a step's answer names the domain that was active
 -- What the domain may not write, read or fetch is Table1's.
 -- Assumes nothing.
-use Prim.Native.Nat.{ℕ, zero, suc, _+_, _≤_, _<_}
+use Prim.Native.Nat.{ℕ, zero, suc, _+_, _<_}
 use mathlib.Core.Path.{_≡_, refl, sym, ap, ap₂, _∙_}
 use mathlib.Core.Bool.{Bool, true, false}
 use mathlib.Core.List.{List, [], _∷_}
 use mathlib.Core.Logic.{_≢_}
-use mathlib.Core.Option.{none, some}
 use native.Mathlib.Omega.{arith}
 use lib.Dec.{eqb}
 use lib.ListN.{length, getD, set}
 use lib.Seq.{sets, getD-set-other, length-sets}
-use borrow.Author.Tests.{eqb-false}
+use borrow.Author.Tests.{eqb-true}
 use Rattle.model.specs.BasicsLaws.{by-bool, by-option, either, true-false}
 use Rattle.model.specs.Map.{Grid, is-domain, Rights, rights, domain, may, lowest}
 use Rattle.model.specs.MapLaws.{lowest-none, may-read}
-use Rattle.model.specs.States.{with-status, context, own, put-own, switch, full}
-use Rattle.model.specs.Instructions.{Plan, Deed, Done, kept, peek, carry, plan}
-use Rattle.model.specs.Events.{Outcome, gives, sent, perform, attempt, step, tick, word-in, event}
+use Rattle.model.specs.States.{context, own, full}
+use Rattle.model.specs.Instructions.{Plan, Deed, Done, peek, carry, plan}
+use Rattle.model.specs.Events.{Outcome, answer-domain, gives, perform, attempt, step, tick, word-in, event}
 use Rattle.model.specs.EventsLaws.{acts, step-idle, step-acts}
 use Rattle.model.specs.declared.map.Map.{Map}
 use Rattle.model.specs.declared.map.Access.{Access}
-use Rattle.model.specs.declared.state.Reason.{Reason}
-use Rattle.model.specs.declared.state.Status.{Status}
 use Rattle.model.specs.declared.state.State.{State}
 use Rattle.model.specs.declared.event.Event.{Event}
-use Rattle.model.specs.declared.event.Answer.{Answer}
 
 -- ---- one plan, with two memories that agree wherever an access is allowed
 
@@ -89,6 +85,23 @@ perform-hands-on count s memory Deed.waits = refl
 perform-hands-on count s memory Deed.halts = refl
 perform-hands-on count s memory (Deed.faults r) = refl
 perform-hands-on count s memory (Deed.sends t w c) = refl
+
+-- a step's answer names the domain that was active, and idle nobody
+perform-names :
+    (count : ℕ) (s : State) (memory : List ℕ) (x : Deed) → answer-domain (perform count s memory x .answer) ≡ s .active
+unfolding perform
+perform-names count s memory (Deed.runs c) = refl
+perform-names count s memory (Deed.gives-way c) = refl
+perform-names count s memory Deed.waits = refl
+perform-names count s memory Deed.halts = refl
+perform-names count s memory (Deed.faults r) = refl
+perform-names count s memory (Deed.sends t w c) = refl
+
+pub step-names : (m : Map) (g : Grid) (s : State) (memory : List ℕ) → answer-domain (step m g s memory .answer) ≡ s .active
+step-names m g s memory =
+    by-bool (eqb (s .active) 0)
+    (λ e. rw (step-idle m g s memory e) (sym (eqb-true (s .active) 0 e)))
+    (λ e. rw (step-acts m g s memory e) (perform-names (m .count) s _ (attempt m g s memory .deed)))
 
 -- two outcomes that differ in nothing but what the memories did before, where the domain may not read
 pub record Isolated (writes : ℕ → Bool) (memory memory′ : List ℕ) (o o′ : Outcome) : Type 0 where
@@ -152,58 +165,3 @@ unfolding event word-in
 word-elsewhere m g s memory b w =
     let P : Outcome → Type 0 = λ o. o .memory ≡ memory in
     either P (is-domain (m .count) b) (either P (full (context s b .mailbox)) refl refl) refl
-
--- ---- a fault
-
-carry-fault :
-    (q : Rights) (memory : List ℕ) (p : Plan) (r : Reason) → carry q memory p .deed ≡ Deed.faults r
-    → carry q memory p ≡ kept memory (Deed.faults r)
-unfolding carry
-carry-fault q memory (Plan.ask k a n go) r =
-    by-option (lowest (q .allows k) a n) (λ e. rw e (carry-fault q memory (go (peek memory a n)) r)) (λ x e. rw e (ap (kept memory)))
-carry-fault q memory (Plan.store a bs c) r =
-    by-option (lowest (q .allows Access.Write) a (length bs)) (λ e. rw e (λ h. cc)) (λ x e. rw e (ap (kept memory)))
-carry-fault q memory (Plan.pass t w c) r =
-    by-bool (q .sends t) (λ e. rw e (ap (kept memory))) (λ e. rw e (ap (kept memory)))
-carry-fault q memory (Plan.end x) r = ap (kept memory)
-
-perform-fault :
-    (count : ℕ) (s : State) (memory : List ℕ) (x : Deed) (d : ℕ) (r : Reason)
-    → perform count s memory x .answer ≡ Answer.Faulted d r → (s .active ≡ d) × (x ≡ Deed.faults r)
-unfolding perform
-perform-fault count s memory (Deed.runs c) d r e = ((cc), (cc))
-perform-fault count s memory (Deed.gives-way c) d r e = ((cc), (cc))
-perform-fault count s memory Deed.waits d r e = ((cc), (cc))
-perform-fault count s memory Deed.halts d r e = ((cc), (cc))
-perform-fault count s memory (Deed.faults y) d r e = ((cc), (cc))
-perform-fault count s memory (Deed.sends t w c) d r e = ((cc), (cc))
-
--- the outcome of a fault of the active domain, and of nothing else
-abbrev pub faulted : ℕ → State → List ℕ → Reason → Outcome
-faulted count s memory r =
-    gives (Answer.Faulted (s .active) r)
-    (switch count (put-own s (with-status (own s) (Status.Faulted r)))) memory
-
-abbrev Explained : ℕ → State → List ℕ → ℕ → Reason → Outcome → Type 0
-Explained count s memory d r o = o .answer ≡ Answer.Faulted d r → (s .active ≡ d) × (o ≡ faulted count s memory r)
-
-pub fault-only :
-    (m : Map) (g : Grid) (s : State) (memory : List ℕ) (e : Event) (d : ℕ) (r : Reason)
-    → event m g s memory e .answer ≡ Answer.Faulted d r
-    → (s .active ≡ d) × (event m g s memory e ≡ faulted (m .count) s memory r)
-unfolding event tick word-in perform
-fault-only m g s memory Event.Step d r =
-    by-bool (eqb (s .active) 0)
-    (λ e. rw (step-idle m g s memory e) (λ h. ((cc), (cc))))
-    (λ e h.
-    let a = step-acts m g s memory e in
-    let x = attempt m g s memory in
-    let f = perform-fault (m .count) s (x .memory) (x .deed) d r (sym (ap (λ o. o .answer) a) ∙ h) in
-    (f .0, a ∙ ap (acts (m .count) s) (carry-fault (rights m g (s .active)) memory (plan (own s)) r (f .1))))
-fault-only m g s memory Event.Tick d r =
-    either (Explained (m .count) s memory d r) (eqb (s .active) 0) (λ h. ((cc), (cc))) (λ h. ((cc), (cc)))
-fault-only m g s memory (Event.WordIn b w) d r =
-    let P : Outcome → Type 0 = Explained (m .count) s memory d r in
-    either P (is-domain (m .count) b)
-    (either P (full (context s b .mailbox)) (λ h. ((cc), (cc))) (λ h. ((cc), (cc))))
-    (λ h. ((cc), (cc)))

@@ -4,14 +4,13 @@
 use Prim.Native.Nat.{ℕ, _≤_}
 use mathlib.Core.Path.{_≡_, refl, ap, _∙_}
 use mathlib.Core.Logic.{_≢_}
-use mathlib.Core.Bool.{Bool, true, false, _&&_}
+use mathlib.Core.Bool.{true, false, _&&_}
 use mathlib.Core.List.{List, [], _∷_}
 use native.Mathlib.Omega.{arith}
-use lib.Dec.{leb, eqb}
+use lib.Dec.{eqb}
 use lib.ListN.{length}
-use borrow.Author.Tests.{leb-true, eqb-false, eq-eqb}
-use Rattle.model.specs.Basics.{if_then_else_}
-use Rattle.model.specs.Map.{most, Grid, Rights, is-domain, rights, granted}
+use borrow.Author.Tests.{eqb-false, eq-eqb}
+use Rattle.model.specs.Map.{most, Grid, Rights, is-domain, rights}
 use Rattle.model.specs.Refusals.{accepts}
 use Rattle.model.specs.States.{full, is-ready, is-waiting, woken, with-status, received, context, own, put-own, start, well-formed, switch}
 use Rattle.model.specs.Instructions.{Deed, plan}

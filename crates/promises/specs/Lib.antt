@@ -4,6 +4,7 @@
 --     Wider       demand 3
 --     Table1      the access rule, against source 000
 --     Isolation   what a step can touch, and what it depends on
+--     Faults      an access happens whole or not at all; what a fault leaves
 --     Kept        the start is well formed, and every event keeps a state so
 --     Fair        a domain that stays ready is active after at most N - 1 switches
 --     Batches     a batch's number
@@ -14,6 +15,7 @@ pub mod Edges
 pub mod Wider
 pub mod Table1
 pub mod Isolation
+pub mod Faults
 pub mod Kept
 pub mod Fair
 pub mod Batches

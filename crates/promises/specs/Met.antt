@@ -1,23 +1,21 @@
 -- The premises of the promises can be met: Case L's map, grid, start and memory meet them, and a wider map than Case L's exists.
 -- Assumes nothing.
-use Prim.Native.Nat.{ℕ, zero, suc, _≤_, _-_}
+use Prim.Native.Nat.{ℕ, zero, suc, _≤_}
 use mathlib.Core.Path.{_≡_, refl}
-use mathlib.Core.Bool.{Bool, true, false, _&&_}
-use mathlib.Core.List.{List, [], _∷_}
+use mathlib.Core.Bool.{true}
+use mathlib.Core.List.{_∷_}
 use native.Mathlib.Omega.{arith}
 use lib.Dec.{leb}
 use lib.ListN.{replicate}
 use borrow.Author.Tests.{leb-true}
 use Rattle.model.specs.BasicsLaws.{by-bool, and-left, and-right}
-use Rattle.model.specs.Map.{absent, inside, Grid, domain, is-domain, may, granted, marked}
+use Rattle.model.specs.Map.{absent, inside, Grid, domain, is-domain, may, granted}
 use Rattle.model.specs.MapLaws.{inside-from, inside-below, inside-between}
-use Rattle.model.specs.Refusals.{accepts}
 use Rattle.model.specs.Sheet.{mark}
 use Rattle.model.specs.Whole.{whole}
 use Rattle.model.specs.declared.map.Domain.{Domain}
 use Rattle.model.specs.declared.map.Map.{Map}
 use Rattle.model.specs.declared.map.Access.{Access}
-use Rattle.model.specs.declared.call.Verdict.{Verdict}
 use Rattle.promises.specs.CaseL.{region, one, L-map, L-grid, L-acceptable}
 use Rattle.promises.specs.Wider.{Wider}
 

@@ -5,18 +5,17 @@
 --     outside-denied         000's lemma 2: nothing anywhere else
 --     write-reads, fetch-reads   lemma 7
 -- Assumes nothing.
-use Prim.Native.Nat.{ℕ, suc, _-_, _+_, _≤_, _<_}
-use mathlib.Core.Path.{_≡_, refl, sym, ap, _∙_}
-use mathlib.Core.Bool.{Bool, true, false, _&&_, _||_, not}
-use mathlib.Core.Logic.{_≢_, _⊎_, inl, inr, ⊎-elim}
+use Prim.Native.Nat.{ℕ, _-_, _≤_, _<_}
+use mathlib.Core.Path.{_≡_}
+use mathlib.Core.Bool.{true, false, not}
+use mathlib.Core.Logic.{_≢_, _⊎_, ⊎-elim}
 use native.Mathlib.Omega.{arith}
 use lib.Dec.{ltb}
-use lib.ListN.{getD}
 use borrow.Author.Tests.{ltb-true, ltb-false}
-use Rattle.model.specs.BasicsLaws.{by-bool, true-false, and-left, and-right, or-right}
-use Rattle.model.specs.Map.{absent, inside, overlaps, Grid, domain, may}
+use Rattle.model.specs.BasicsLaws.{by-bool, and-left, and-right}
+use Rattle.model.specs.Map.{inside, overlaps, Grid, domain, may}
 use Rattle.model.specs.MapLaws.{apart, overlaps-swap, may-read}
-use Rattle.model.specs.Refusals.{free-of, clear, accepts}
+use Rattle.model.specs.Refusals.{free-of, accepts}
 use Rattle.model.specs.RefusalsLaws.{acceptable, Placed, placed, clear-kernel, clear-domain}
 use Rattle.model.specs.declared.map.Region.{Region}
 use Rattle.model.specs.declared.map.Domain.{Domain}

@@ -6,23 +6,22 @@
 --     wider       the theorem;  throughout: where there is no such fault, the two runs are equal;  from-start: for nodes just started
 -- The rights occur in one definition, `carry`, so the proof is one induction over plans.
 -- Assumes nothing.
-use Prim.Native.Nat.{ℕ, zero, suc, _+_, _-_, _≤_, _<_}
+use Prim.Native.Nat.{ℕ, zero, suc, _+_, _-_, _≤_}
 use mathlib.Core.Path.{_≡_, refl, sym, ap, ap₂, _∙_}
 use mathlib.Core.Bool.{Bool, true, false}
 use mathlib.Core.List.{List, [], _∷_}
 use mathlib.Core.Logic.{_⊎_, inl, inr, ⊎-elim}
-use mathlib.Core.Option.{Option, none, some}
+use mathlib.Core.Option.{none, some}
 use native.Mathlib.Omega.{arith}
 use lib.Dec.{eqb}
 use borrow.Author.Tests.{eqb-false}
 use lib.ListN.{length, getD, set, replicate}
-use Rattle.model.specs.Basics.{if_then_else_, unless}
 use Rattle.model.specs.BasicsLaws.{by-bool, by-option}
 use Rattle.model.specs.Map.{most, absent, Grid, Rights, rights, domain, may, granted, lowest}
 use Rattle.model.specs.MapLaws.{lowest-wider}
 use Rattle.model.specs.Refusals.{accepts}
 use Rattle.model.specs.RefusalsLaws.{acceptable}
-use Rattle.model.specs.Instructions.{Plan, Deed, Done, kept, denied, peek, carry, plan}
+use Rattle.model.specs.Instructions.{Plan, Deed, kept, denied, peek, carry, plan}
 use Rattle.model.specs.States.{own, at-entry, blank, seated, start}
 use Rattle.model.specs.EventsLaws.{acts, step-idle, step-acts, event-bound}
 use Rattle.model.specs.Events.{perform, step, tick, word-in, event, then-run, run}
