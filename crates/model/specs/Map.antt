@@ -51,8 +51,12 @@ marked g row column = getD (getD g row []) column false
 abbrev pub is-domain : ℕ → ℕ → Bool
 is-domain count d = leb 1 d && leb d count
 
+-- the map's entry after its first i, and domain d's
+abbrev pub nth : Map → ℕ → Domain
+nth m i = getD (m .domains) i absent
+
 abbrev pub domain : Map → ℕ → Domain
-domain m d = getD (m .domains) (d - 1) absent
+domain m d = nth m (d - 1)
 
 -- "Domain d may read an address in its code or data, write one in its data, fetch one from its code. Nothing else."
 unfoldable pub may : Domain → Access → ℕ → Bool

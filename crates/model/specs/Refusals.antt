@@ -3,8 +3,8 @@
 use Prim.Native.Nat.{ℕ, zero, suc, _+_, _*_, _/_, _%_}
 use mathlib.Core.Bool.{Bool, true, false, _&&_, _||_, not}
 use lib.Dec.{leb, ltb, eqb}
-use lib.ListN.{length, getD}
-use Rattle.model.specs.Map.{most, inside, overlaps, absent, Grid, marked, is-domain}
+use lib.ListN.{length}
+use Rattle.model.specs.Map.{most, inside, overlaps, nth, Grid, marked, is-domain}
 use Rattle.model.specs.declared.map.Region.{Region}
 use Rattle.model.specs.declared.map.Domain.{Domain}
 use Rattle.model.specs.declared.map.Map.{Map}
@@ -56,7 +56,7 @@ zero-domain d = zero-region (d .code) && zero-region (d .«data») && eqb (d .en
 -- of the first n entries, those past the count are all zero
 unfoldable pub unused-zero : Map → ℕ → Bool
 unused-zero m zero = true
-unused-zero m (suc n) = let rest = unused-zero m n in (ltb n (m .count) || zero-domain (getD (m .domains) n absent)) && rest
+unused-zero m (suc n) = let rest = unused-zero m n in (ltb n (m .count) || zero-domain (nth m n)) && rest
 
 -- 3
 abbrev pub sized : ℕ → Bool
@@ -72,7 +72,7 @@ free-of r d = not (overlaps r (d .code)) && not (overlaps r (d .«data»))
 
 unfoldable pub clear : Map → Region → ℕ → Bool
 clear m r zero = not (overlaps r (m .kernel))
-clear m r (suc i) = let rest = clear m r i in free-of r (getD (m .domains) i absent) && rest
+clear m r (suc i) = let rest = clear m r i in free-of r (nth m i) && rest
 
 -- 4, 5 and 6 for a domain that stands after the first i
 unfoldable pub domain-verdict : Map → ℕ → Domain → Verdict
@@ -86,7 +86,7 @@ domain-verdict m i d =
 -- for n domains in turn, from the one after the first i
 unfoldable pub domains-verdict : Map → ℕ → ℕ → Verdict
 domains-verdict m i zero = Verdict.Accepted
-domains-verdict m i (suc n) = let rest = domains-verdict m (i + 1) n in domain-verdict m i (getD (m .domains) i absent) ▸ rest
+domains-verdict m i (suc n) = let rest = domains-verdict m (i + 1) n in domain-verdict m i (nth m i) ▸ rest
 
 -- the grid's cells are counted row by row: cell p is row p / 8, column p % 8
 abbrev pub cell : Grid → ℕ → Bool

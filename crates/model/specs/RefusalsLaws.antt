@@ -7,9 +7,8 @@ use mathlib.Core.Bool.{Bool, true, false, _&&_, _||_, not}
 use native.Mathlib.Omega.{arith}
 use native.Mathlib.Nat.{add-zero, zero-add}
 use lib.Dec.{leb, ltb}
-use lib.ListN.{getD}
 use borrow.Author.Tests.{ltb-true, ltb-false, leb-true, le-leb}
-use Rattle.model.specs.Map.{most, absent, inside, overlaps, Grid}
+use Rattle.model.specs.Map.{most, inside, overlaps, Grid, nth}
 use Rattle.model.specs.Refusals.{check, _▸_, counted, zero-domain, unused-zero, sized, within, free-of, clear, domain-verdict, domains-verdict, cell, from, to, is-channel, channels-good, map-verdict, accepts}
 use Rattle.model.specs.BasicsLaws.{by-bool, and-left, and-right, and-both}
 use Rattle.model.specs.declared.map.Region.{Region}
@@ -38,7 +37,7 @@ check-both r e f = rw e f
 
 -- a run of domains is accepted exactly if each of them is
 abbrev pub domain-accepted : Map → ℕ → Type 0
-domain-accepted m k = domain-verdict m k (getD (m .domains) k absent) ≡ Verdict.Accepted
+domain-accepted m k = domain-verdict m k (nth m k) ≡ Verdict.Accepted
 
 domain-at : (m : Map) (i n k : ℕ) → domains-verdict m i n ≡ Verdict.Accepted → k < n → domain-accepted m (i + k)
 unfolding domains-verdict
@@ -46,7 +45,7 @@ domain-at m i zero k e h = absurd (omega arith)
 domain-at m i (suc n) zero e h = rw add-zero (then-left _ (domains-verdict m (i + 1) n) e)
 domain-at m i (suc n) (suc k) e h =
     let p : i + 1 + k ≡ i + suc k = omega arith in
-    rw p at (domain-at m (i + 1) n k (then-right (domain-verdict m i (getD (m .domains) i absent)) _ e) (omega arith))
+    rw p at (domain-at m (i + 1) n k (then-right (domain-verdict m i (nth m i)) _ e) (omega arith))
 
 domains-from :
     (m : Map) (i n : ℕ) → ((k : ℕ) → i ≤ k → k < i + n → domain-accepted m k) → domains-verdict m i n ≡ Verdict.Accepted
@@ -77,7 +76,7 @@ cells-from count g p (suc n) h =
 
 -- the first n entries past the count are all zero exactly if each is
 abbrev pub entry-good : Map → ℕ → Bool
-entry-good m k = ltb k (m .count) || zero-domain (getD (m .domains) k absent)
+entry-good m k = ltb k (m .count) || zero-domain (nth m k)
 
 entry-at : (m : Map) (n k : ℕ) → unused-zero m n ≡ true → k < n → entry-good m k ≡ true
 unfolding unused-zero
@@ -170,15 +169,15 @@ placed m i d e =
 pub clear-kernel : (m : Map) (r : Region) (i : ℕ) → clear m r i ≡ true → not (overlaps r (m .kernel)) ≡ true
 unfolding clear
 clear-kernel m r zero e = e
-clear-kernel m r (suc i) e = clear-kernel m r i (and-right (free-of r (getD (m .domains) i absent)) _ e)
+clear-kernel m r (suc i) e = clear-kernel m r i (and-right (free-of r (nth m i)) _ e)
 
 pub clear-domain :
-    (m : Map) (r : Region) (i k : ℕ) → clear m r i ≡ true → k < i → free-of r (getD (m .domains) k absent) ≡ true
+    (m : Map) (r : Region) (i k : ℕ) → clear m r i ≡ true → k < i → free-of r (nth m k) ≡ true
 unfolding clear
 clear-domain m r zero k e h = absurd (omega arith)
 clear-domain m r (suc i) k e h =
     by-bool (ltb k i)
-    (λ l. clear-domain m r i k (and-right (free-of r (getD (m .domains) i absent)) _ e) (ltb-true k i l))
+    (λ l. clear-domain m r i k (and-right (free-of r (nth m i)) _ e) (ltb-true k i l))
     (λ l.
     let q : i ≡ k = omega (arith, ltb-false k i l) in
-    rw q at (and-left (free-of r (getD (m .domains) i absent)) (clear m r i) e))
+    rw q at (and-left (free-of r (nth m i)) (clear m r i) e))

@@ -6,7 +6,7 @@ use mathlib.Core.List.{List, [], _∷_, _++_}
 use lib.Dec.{leb, eqb}
 use lib.ListN.{length, getD, set, take, drop}
 use Rattle.model.specs.Basics.{if_then_else_, bytes, number}
-use Rattle.model.specs.Map.{most, absent, no-map, Grid, no-grid}
+use Rattle.model.specs.Map.{most, nth, no-map, Grid, no-grid}
 use Rattle.model.specs.Refusals.{check, sized, within, domain-verdict, cell, from, to, is-channel}
 use Rattle.model.specs.declared.map.Region.{Region}
 use Rattle.model.specs.declared.map.Domain.{Domain}
@@ -31,7 +31,7 @@ domain-record d = 3 ∷ (region-bytes (d .code) ++ (region-bytes (d .«data») +
 -- n domains, from the one after the first i
 unfoldable pub domain-records : Map → ℕ → ℕ → List ℕ
 domain-records m i zero = []
-domain-records m i (suc n) = domain-record (getD (m .domains) i absent) ++ domain-records m (i + 1) n
+domain-records m i (suc n) = domain-record (nth m i) ++ domain-records m (i + 1) n
 
 -- "any number of 4 in rising order of (from, to)": n cells of the grid, from the p-th on
 unfoldable pub channel-records : Grid → ℕ → ℕ → List ℕ

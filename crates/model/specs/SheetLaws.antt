@@ -11,12 +11,12 @@ use mathlib.Core.Bool.{true, _&&_, not}
 use mathlib.Core.List.{List, [], _∷_, _++_}
 use native.Mathlib.Omega.{arith}
 use lib.Dec.{ltb, eqb}
-use lib.ListN.{length, getD, take, drop, length-set}
+use lib.ListN.{length, take, drop, length-set}
 use lib.Seq.{getD-set-same, getD-set-other, ext-getD}
 use borrow.Author.Tests.{ltb-true, ltb-false, eqb-true, eqb-false, ne-eqb}
 use Rattle.model.specs.Basics.{bytes}
 use Rattle.model.specs.BasicsLaws.{by-bool, and-left, and-right}
-use Rattle.model.specs.Map.{most, nowhere, absent, Grid, no-grid, overlaps}
+use Rattle.model.specs.Map.{most, nowhere, absent, Grid, no-grid, overlaps, nth}
 use Rattle.model.specs.Refusals.{clear, zero-region, zero-domain, domain-verdict, cell}
 use Rattle.model.specs.RefusalsLaws.{domain-accepted, cell-good, entry-good, Acceptable}
 use Rattle.model.specs.Sheet.{Found, judged, region-bytes, domain-record, domain-of, with-domain, domain-records, domains-read, channel-records, channels-read}
@@ -52,7 +52,7 @@ domains-length m i (suc n) = omega (arith, domains-length m (i + 1) n)
 pub record Agree (i : ℕ) (m q : Map) : Type 0 where
   pub length : m .length ≡ q .length
   pub kernel : m .kernel ≡ q .kernel
-  pub before : (k : ℕ) → k < i → getD (m .domains) k absent ≡ getD (q .domains) k absent
+  pub before : (k : ℕ) → k < i → nth m k ≡ nth q k
 
 clear-agrees : (m q : Map) (r : Region) (i : ℕ) → Agree i m q → clear m r i ≡ clear q r i
 unfolding clear
@@ -71,13 +71,13 @@ verdict-agrees m q i d a =
 -- a map while it is read: entries past the count are absent
 pub record Reading (q : Map) : Type 0 where
   pub size : length (q .domains) ≡ most
-  pub after : (k : ℕ) → q .count ≤ k → k < most → getD (q .domains) k absent ≡ absent
+  pub after : (k : ℕ) → q .count ≤ k → k < most → nth q k ≡ absent
 
 module _ (q : Map) (r : Reading q) (d : Domain) (room : q .count < most) where
-  there : getD (with-domain q d .domains) (q .count) absent ≡ d
+  there : nth (with-domain q d) (q .count) ≡ d
   there = getD-set-same (q .domains) (q .count) d absent (omega (arith, r .size))
 
-  elsewhere : (k : ℕ) → k ≢ q .count → getD (with-domain q d .domains) k absent ≡ getD (q .domains) k absent
+  elsewhere : (k : ℕ) → k ≢ q .count → nth (with-domain q d) k ≡ nth q k
   elsewhere k n = getD-set-other (q .domains) (q .count) k d absent n
 
   reading-more : Reading (with-domain q d)
@@ -87,7 +87,7 @@ module _ (q : Map) (r : Reading q) (d : Domain) (room : q .count < most) where
         after = λ k h l. elsewhere k (omega arith) ∙ r .after k (omega arith) l;
       }
 
-  agree-more : (m : Map) → Agree (q .count) m q → getD (m .domains) (q .count) absent ≡ d → Agree (q .count + 1) m (with-domain q d)
+  agree-more : (m : Map) → Agree (q .count) m q → nth m (q .count) ≡ d → Agree (q .count + 1) m (with-domain q d)
   agree-more m a e =
       record {
         length = a .length;
@@ -151,7 +151,7 @@ domains-back m g s a zero room at q r b e f =
     (tail-read room at m g 0 (most * most) (a .some) ∙ channels-back g (square s) m (a .channels) at)
 domains-back m g s a (suc n) zero at q r b e f = absurd (omega (arith, a .few))
 domains-back m g s a (suc n) (suc room) at q r b e f =
-    let d = getD (m .domains) (q .count) absent in
+    let d = nth m (q .count) in
     let v = a .each (q .count) (omega arith) in
     let rest = domain-records m (q .count + 1) n ++ closing g in
     domain-read room at q d rest (verdict-small m (q .count) d (a .short) v)
@@ -201,7 +201,7 @@ module _ (m : Map) (g : Grid) where
       → domain-record d ++ rest ≡ bs → Domained (with-domain q d) rest m g → Domained q bs m g
   unfolding domain-records
   domains-more q d rest bs r room v e c =
-      let here : getD (m .domains) (q .count) absent ≡ d = c .agree .before (q .count) (omega arith) ∙ there q r d room in
+      let here : nth m (q .count) ≡ d = c .agree .before (q .count) (omega arith) ∙ there q r d room in
       let agree : Agree (q .count) m q = record {
         length = c .agree .length;
         kernel = c .agree .kernel;

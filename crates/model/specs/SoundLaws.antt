@@ -13,7 +13,7 @@ use lib.Dec.{eqb}
 use lib.ListN.{length, getD, set, replicate, length-set, getD-replicate}
 use lib.Seq.{getD-set-same, getD-set-other}
 use borrow.Author.Tests.{eqb-true, eqb-false}
-use Rattle.model.specs.Map.{most, absent}
+use Rattle.model.specs.Map.{most, nth}
 use Rattle.model.specs.BasicsLaws.{by-bool}
 use Rattle.model.specs.States.{blank, missing, is-ready, put, with-active, ready, at-entry, seated, start, box-good, context-good, zeros, is-blank, well-formed, switch}
 use Rattle.model.specs.StatesLaws.{put-long, each-put, ready-put, Led, Held, good, formed}
@@ -106,11 +106,11 @@ seated-other cs m i (suc n) k f =
 
 seated-at :
     (cs : List Context) (m : Map) (i n k : ℕ) → i + n ≤ length cs → i ≤ k → k < i + n
-    → getD (seated cs m i n) k missing ≡ at-entry (getD (m .domains) k absent .entry)
+    → getD (seated cs m i n) k missing ≡ at-entry (nth m k .entry)
 unfolding seated
 seated-at cs m i zero k h a b = absurd (omega arith)
 seated-at cs m i (suc n) k h a b =
-    let c = at-entry (getD (m .domains) i absent .entry) in
+    let c = at-entry (nth m i .entry) in
     by-bool (eqb k i)
     (λ t. rw (eqb-true k i t)
     (seated-other (set cs i c) m (i + 1) n i (λ j _. omega arith) ∙ getD-set-same cs i c missing (omega arith)))
@@ -118,7 +118,7 @@ seated-at cs m i (suc n) k h a b =
     seated-at (set cs i c) m (i + 1) n k (rw length-set (omega arith)) (omega arith) (omega arith))
 
 at-start :
-    (m : Map) (k : ℕ) → m .count ≤ most → k < m .count → getD (start m .contexts) k missing ≡ at-entry (getD (m .domains) k absent .entry)
+    (m : Map) (k : ℕ) → m .count ≤ most → k < m .count → getD (start m .contexts) k missing ≡ at-entry (nth m k .entry)
 unfolding start
 at-start m k f h = seated-at (replicate most blank) m 0 (m .count) k (omega arith) (omega arith) (omega arith)
 

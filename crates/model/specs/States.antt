@@ -6,7 +6,7 @@ use mathlib.Core.List.{List, []}
 use lib.Dec.{leb, ltb, eqb}
 use lib.ListN.{getD, set, replicate}
 use Rattle.model.specs.Basics.{if_then_else_}
-use Rattle.model.specs.Map.{most, absent}
+use Rattle.model.specs.Map.{most, nth}
 use Rattle.model.specs.declared.map.Map.{Map}
 use Rattle.model.specs.declared.state.Reason.{Reason}
 use Rattle.model.specs.declared.state.Status.{Status}
@@ -125,7 +125,7 @@ at-entry entry = record { registers = replicate 8 0; counter = entry; status = S
 -- n domains are put at their entries, from the one after the first i
 unfoldable pub seated : List Context → Map → ℕ → ℕ → List Context
 seated cs m i zero = cs
-seated cs m i (suc n) = seated (set cs i (at-entry (getD (m .domains) i absent .entry))) m (i + 1) n
+seated cs m i (suc n) = seated (set cs i (at-entry (nth m i .entry))) m (i + 1) n
 
 unfoldable pub start : Map → State
 start m = record { active = 1; contexts = seated (replicate most blank) m 0 (m .count) }

@@ -15,9 +15,9 @@ use mathlib.Core.Option.{none, some}
 use native.Mathlib.Omega.{arith}
 use lib.Dec.{eqb}
 use borrow.Author.Tests.{eqb-false}
-use lib.ListN.{length, getD, set, replicate}
+use lib.ListN.{length, set, replicate}
 use Rattle.model.specs.BasicsLaws.{by-bool, by-option}
-use Rattle.model.specs.Map.{most, absent, Grid, Rights, rights, domain, may, granted, lowest}
+use Rattle.model.specs.Map.{most, Grid, Rights, rights, domain, may, granted, lowest, nth}
 use Rattle.model.specs.MapLaws.{lowest-wider}
 use Rattle.model.specs.Refusals.{accepts}
 use Rattle.model.specs.RefusalsLaws.{acceptable}
@@ -172,9 +172,9 @@ module _ (m : Map) (g : Grid) (m′ : Map) (g′ : Grid) (w : Wider m g m′ g�
   seated-alike cs i zero h = refl
   seated-alike cs i (suc n) h =
       let z : i + 1 - 1 ≡ i = omega arith in
-      let e : getD (m .domains) i absent .entry ≡ getD (m′ .domains) i absent .entry =
+      let e : nth m i .entry ≡ nth m′ i .entry =
       rw z at (w .entries (i + 1) (omega arith) (omega arith)) in
-      seated-alike (set cs i (at-entry (getD (m .domains) i absent .entry))) (i + 1) n (omega arith)
+      seated-alike (set cs i (at-entry (nth m i .entry))) (i + 1) n (omega arith)
       ∙ ap (λ x. seated (set cs i (at-entry x)) m′ (i + 1) n) e
 
   pub start-alike : start m ≡ start m′
