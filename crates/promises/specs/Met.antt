@@ -2,16 +2,18 @@
 -- Assumes nothing.
 use Prim.Native.Nat.{ℕ, zero, suc, _≤_}
 use mathlib.Core.Path.{_≡_, refl}
-use mathlib.Core.Bool.{true}
-use mathlib.Core.List.{_∷_}
+use mathlib.Core.Bool.{Bool, true, _&&_}
+use mathlib.Core.List.{List, [], _∷_}
 use native.Mathlib.Omega.{arith}
-use lib.Dec.{leb}
+use lib.Dec.{leb, ltb}
 use lib.ListN.{replicate}
-use borrow.Author.Tests.{leb-true}
+use borrow.Author.Tests.{ltb-true, leb-true}
 use Rattle.model.specs.BasicsLaws.{by-bool, and-left, and-right}
-use Rattle.model.specs.Map.{absent, inside, Grid, domain, is-domain, may, granted}
+use Rattle.model.specs.Map.{absent, inside, Grid, no-grid, domain, is-domain, may, granted}
 use Rattle.model.specs.MapLaws.{inside-from, inside-below, inside-between}
-use Rattle.model.specs.Sheet.{mark}
+use Rattle.model.specs.Sheet.{mark, sheet-bytes}
+use Rattle.model.specs.GridLaws.{Shaped, no-grid-square, mark-square}
+use Rattle.model.specs.RecordLaws.{Octets}
 use Rattle.model.specs.Whole.{whole}
 use Rattle.model.specs.declared.map.Domain.{Domain}
 use Rattle.model.specs.declared.map.Map.{Map}
@@ -69,3 +71,23 @@ L-wider =
       channel =
           one-or-two (λ d. (t : ℕ) → granted 2 L-grid d t ≡ true → granted 2 L-wide-grid d t ≡ true) (λ t e. e) second-sends;
     }
+
+-- what the sheet's round trips ask of a map and a grid, and of bytes
+pub L-shaped : Shaped L-map L-grid
+L-shaped =
+    let g = mark-square no-grid no-grid-square 1 2 (omega arith) in
+    record { domains = refl; rows = g .rows; columns = g .columns }
+
+below-256 : List ℕ → Bool
+below-256 [] = true
+below-256 (b ∷ rest) = ltb b 256 && below-256 rest
+
+octets : (s : List ℕ) → below-256 s ≡ true → Octets s
+unfolding below-256
+octets [] e i = omega arith
+octets (b ∷ rest) e zero = ltb-true b 256 (and-left (ltb b 256) _ e)
+octets (b ∷ rest) e (suc i) = octets rest (and-right (ltb b 256) _ e) i
+
+pub L-octets : Octets (sheet-bytes L-map L-grid)
+unfolding whole below-256
+L-octets = octets (sheet-bytes L-map L-grid) refl
