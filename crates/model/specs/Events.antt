@@ -84,13 +84,14 @@ tick count s memory =
 abbrev pub roused : State → ℕ → State → State
 roused s b t = if eqb (s .active) 0 && is-waiting (context s b .status) then with-active t b else t
 
-unfoldable pub word-in : ℕ → State → List ℕ → ℕ → ℕ → Outcome
-word-in count s memory b w =
-    if is-domain count b
-    then (if full (context s b .mailbox)
+abbrev pub word-for : State → List ℕ → ℕ → ℕ → Outcome
+word-for s memory b w =
+    if full (context s b .mailbox)
     then gives (Answer.Full b) s memory
-    else gives (Answer.Taken b) (roused s b (delivered s b w 0)) memory)
-    else gives (Answer.NoDomain b) s memory
+    else gives (Answer.Taken b) (roused s b (delivered s b w 0)) memory
+
+unfoldable pub word-in : ℕ → State → List ℕ → ℕ → ℕ → Outcome
+word-in count s memory b w = if is-domain count b then word-for s memory b w else gives (Answer.NoDomain b) s memory
 
 unfoldable pub event : Map → Grid → State → List ℕ → Event → Outcome
 event m g s memory Event.Step = step m g s memory
@@ -112,13 +113,20 @@ run m g s memory [] = record { answers = []; state = s; memory = memory }
 run m g s memory (e ∷ es) = let o = event m g s memory e in then-run o (run m g (o .state) (o .memory) es)
 
 -- the event at the front of the bytes and how many it takes, or 11 or 12. "Kind 3, body of a domain byte and a 32-bit word"
+abbrev pub word-event : List ℕ → EventRead
+word-event s =
+    if leb 6 (length s)
+    then EventRead.Whole (Event.WordIn (getD s 1 0) (number s 2)) 6
+    else EventRead.Broken Refusal.EventShort
+
+abbrev pub of-kind : ℕ → List ℕ → EventRead
+of-kind kind s =
+    if eqb kind 1 then EventRead.Whole Event.Step 1
+    else (if eqb kind 2 then EventRead.Whole Event.Tick 1
+    else (if eqb kind 3 then word-event s else EventRead.Broken Refusal.EventKind))
+
 unfoldable pub event-read : List ℕ → EventRead
-event-read s =
-    if eqb (getD s 0 0) 1 then EventRead.Whole Event.Step 1
-    else (if eqb (getD s 0 0) 2 then EventRead.Whole Event.Tick 1
-    else (if eqb (getD s 0 0) 3
-    then (if leb 6 (length s) then EventRead.Whole (Event.WordIn (getD s 1 0) (number s 2)) 6 else EventRead.Broken Refusal.EventShort)
-    else EventRead.Broken Refusal.EventKind))
+event-read s = of-kind (getD s 0 0) s
 
 pub record Trace : Type 0 where
   pub events : List Event

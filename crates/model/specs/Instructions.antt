@@ -37,8 +37,27 @@ pub data Plan : Type 0 where
 abbrev pub jump : Context → ℕ → Plan
 jump c target = Plan.end (Deed.runs (with-counter c target))
 
-abbrev pub sets-register : Context → ℕ → ℕ → Plan
-sets-register c r v = Plan.end (Deed.runs (set-register c r v))
+-- the bytes r, s and o of a body; what is in r and s; the address s + o; r becomes a number
+abbrev pub byte-r : List ℕ → ℕ
+byte-r b = getD b 0 0
+
+abbrev pub byte-s : List ℕ → ℕ
+byte-s b = getD b 1 0
+
+abbrev pub byte-o : List ℕ → ℕ
+byte-o b = getD b 2 0
+
+abbrev pub in-r : Context → List ℕ → ℕ
+in-r c b = register c (byte-r b)
+
+abbrev pub in-s : Context → List ℕ → ℕ
+in-s c b = register c (byte-s b)
+
+abbrev pub address : Context → List ℕ → ℕ
+address c b = in-s c b + byte-o b
+
+abbrev pub becomes : Context → List ℕ → ℕ → Plan
+becomes on b v = Plan.end (Deed.runs (set-register on (byte-r b) v))
 
 -- "receive word into r, then sender into s; the box becomes empty"
 abbrev pub take-into : Context → Context → ℕ → ℕ → Context
@@ -46,32 +65,28 @@ take-into c on r s =
     set-register (set-register (with-box on (take-word (c .mailbox))) r (held-word (c .mailbox))) s (held-sender (c .mailbox))
 
 -- the effect with body b in context c; `on` is c with its counter past the instruction.
--- "Every register that an instruction reads is read before it sets any": values are read from c
+-- "Every register that an instruction reads is read before it sets any": values are read from c.
+-- The body of send is d r, so its first byte is the domain and its second the register
 unfoldable pub work : Effect → List ℕ → Context → Context → Plan
 work Effect.Nothing b c on = Plan.end (Deed.runs on)
-work Effect.Set b c on = sets-register on (getD b 0 0) (number b 1)
-work Effect.Copy b c on = sets-register on (getD b 0 0) (register c (getD b 1 0))
-work Effect.Add b c on = sets-register on (getD b 0 0) ((register c (getD b 0 0) + register c (getD b 1 0)) % 2 ^ 32)
-work Effect.Subtract b c on =
-    sets-register on (getD b 0 0) ((register c (getD b 0 0) + 2 ^ 32 - register c (getD b 1 0)) % 2 ^ 32)
-work Effect.And b c on = sets-register on (getD b 0 0) (bitAnd (register c (getD b 0 0)) (register c (getD b 1 0)))
-work Effect.Or b c on = sets-register on (getD b 0 0) (bitOr (register c (getD b 0 0)) (register c (getD b 1 0)))
-work Effect.Xor b c on = sets-register on (getD b 0 0) (bitXor (register c (getD b 0 0)) (register c (getD b 1 0)))
-work Effect.Less b c on =
-    sets-register on (getD b 0 0) (if ltb (register c (getD b 0 0)) (register c (getD b 1 0)) then 1 else 0)
-work Effect.LoadByte b c on =
-    Plan.ask Access.Read (register c (getD b 1 0) + getD b 2 0) 1 (λ got. sets-register on (getD b 0 0) (getD got 0 0))
-work Effect.LoadWord b c on =
-    Plan.ask Access.Read (register c (getD b 1 0) + getD b 2 0) 4 (λ got. sets-register on (getD b 0 0) (number got 0))
-work Effect.StoreByte b c on =
-    Plan.store (register c (getD b 1 0) + getD b 2 0) (register c (getD b 0 0) % 256 ∷ []) on
-work Effect.StoreWord b c on = Plan.store (register c (getD b 1 0) + getD b 2 0) (bytes (register c (getD b 0 0))) on
+work Effect.Set b c on = becomes on b (number b 1)
+work Effect.Copy b c on = becomes on b (in-s c b)
+work Effect.Add b c on = becomes on b ((in-r c b + in-s c b) % 2 ^ 32)
+work Effect.Subtract b c on = becomes on b ((in-r c b + 2 ^ 32 - in-s c b) % 2 ^ 32)
+work Effect.And b c on = becomes on b (bitAnd (in-r c b) (in-s c b))
+work Effect.Or b c on = becomes on b (bitOr (in-r c b) (in-s c b))
+work Effect.Xor b c on = becomes on b (bitXor (in-r c b) (in-s c b))
+work Effect.Less b c on = becomes on b (if ltb (in-r c b) (in-s c b) then 1 else 0)
+work Effect.LoadByte b c on = Plan.ask Access.Read (address c b) 1 (λ got. becomes on b (getD got 0 0))
+work Effect.LoadWord b c on = Plan.ask Access.Read (address c b) 4 (λ got. becomes on b (number got 0))
+work Effect.StoreByte b c on = Plan.store (address c b) (in-r c b % 256 ∷ []) on
+work Effect.StoreWord b c on = Plan.store (address c b) (bytes (in-r c b)) on
 work Effect.Jump b c on = jump c (half b 0)
-work Effect.JumpIf b c on = if eqb (register c (getD b 0 0)) 0 then Plan.end (Deed.runs on) else jump c (half b 1)
-work Effect.JumpTo b c on = jump c (register c (getD b 0 0))
+work Effect.JumpIf b c on = if eqb (in-r c b) 0 then Plan.end (Deed.runs on) else jump c (half b 1)
+work Effect.JumpTo b c on = jump c (in-r c b)
 work Effect.Send b c on = Plan.pass (getD b 0 0) (register c (getD b 1 0)) on
 work Effect.Receive b c on =
-    Plan.end (if full (c .mailbox) then Deed.runs (take-into c on (getD b 0 0) (getD b 1 0)) else Deed.waits)
+    Plan.end (if full (c .mailbox) then Deed.runs (take-into c on (byte-r b) (byte-s b)) else Deed.waits)
 work Effect.Advance b c on = Plan.end (Deed.gives-way on)
 work Effect.Halt b c on = Plan.end Deed.halts
 

@@ -106,17 +106,20 @@ domains-read zero at m rest = channels-read at m 0 no-grid rest
 domains-read (suc room) at m [] = refused Refusal.Short at
 domains-read (suc room) at m (k ∷ rest) =
     let others = if eqb (m .count) 0 then refused Refusal.Kind at else channels-read at m 0 no-grid (k ∷ rest) in
-    let this = body at 20 rest (λ b after.
-    judged at (domain-verdict m (m .count) (domain-of b)) (domains-read room (at + 21) (with-domain m (domain-of b)) after)) in
+    let this = body at 20 rest (λ b after. let d = domain-of b in
+    judged at (domain-verdict m (m .count) d) (domains-read room (at + 21) (with-domain m d) after)) in
     if eqb k 3 then this else others
 
 abbrev pub beginning-map : ℕ → Region → Map
 beginning-map n r = record { length = n; kernel = r; count = 0; domains = no-map .domains }
 
+-- after the kernel's numbers, after the length, and from the front
+abbrev pub kernel-read : ℕ → Region → List ℕ → Found
+kernel-read n r rest = judged 5 (check (within n r) Refusal.Bounds) (domains-read most 14 (beginning-map n r) rest)
+
+abbrev pub length-read : ℕ → List ℕ → Found
+length-read n rest =
+    judged 0 (check (sized n) Refusal.Length) (one-record 5 2 8 rest (λ b after. kernel-read n (region-of b 0) after))
+
 unfoldable pub sheet-read : List ℕ → Found
-sheet-read s =
-    one-record 0 1 4 s (λ b rest.
-    judged 0 (check (sized (number b 0)) Refusal.Length)
-    (one-record 5 2 8 rest (λ c after.
-    judged 5 (check (within (number b 0) (region-of c 0)) Refusal.Bounds)
-    (domains-read most 14 (beginning-map (number b 0) (region-of c 0)) after))))
+sheet-read s = one-record 0 1 4 s (λ b rest. length-read (number b 0) rest)

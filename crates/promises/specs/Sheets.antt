@@ -16,7 +16,7 @@ use Rattle.model.specs.BasicsLaws.{and-left, and-right, and-both, number-bytes}
 use Rattle.model.specs.Map.{most, absent, Grid}
 use Rattle.model.specs.Refusals.{check, sized, within, accepts}
 use Rattle.model.specs.RefusalsLaws.{check-true, Acceptable, acceptable, accept}
-use Rattle.model.specs.Sheet.{Found, judged, one-record, length-record, region-bytes, kernel-record, region-of, beginning-map, domain-records, domains-read, sheet-bytes, sheet-read}
+use Rattle.model.specs.Sheet.{Found, kernel-read, length-read, one-record, length-record, region-bytes, kernel-record, region-of, beginning-map, domain-records, domains-read, sheet-bytes, sheet-read}
 use Rattle.model.specs.GridLaws.{Shaped, channel-count, channel-most}
 use Rattle.model.specs.ChannelLaws.{closing, judged-known, channels-length}
 use Rattle.model.specs.RecordLaws.{within-narrow, region-back, body-present, record-known, Octets, octets-drop, length-spelt, kernel-spelt}
@@ -38,14 +38,6 @@ sheet-bounds m g e =
     let c = channel-most (m .count) g (a .channels) in
     rw sheet-length (omega (arith, a .some, a .few))
 
--- the reader after the kernel's numbers, and after the length
-abbrev after-kernel : ℕ → Region → List ℕ → Found
-after-kernel n r rest = judged 5 (check (within n r) Refusal.Bounds) (domains-read most 14 (beginning-map n r) rest)
-
-abbrev after-length : ℕ → List ℕ → Found
-after-length n rest =
-    judged 0 (check (sized n) Refusal.Length) (one-record 5 2 8 rest (λ c after. after-kernel n (region-of c 0) after))
-
 beginning : (n : ℕ) (r : Region) → Reading (beginning-map n r)
 beginning n r = record { size = refl; after = λ k h l. getD-replicate most k absent absent l }
 
@@ -57,11 +49,11 @@ read-after-write m g s e =
     let domains = domain-records m 0 (m .count) ++ closing g in
     let rest = kernel-record (m .kernel) ++ domains in
     let long : sized (m .length) ≡ true = and-both (le-leb 256 (m .length) (a .long)) (le-leb (m .length) 65536 (a .short)) in
-    body-present 0 4 (bytes (m .length) ++ rest) (λ b rest. after-length (number b 0) rest) (omega arith)
-    ∙ ap (λ (n : ℕ). after-length n rest) (number-bytes (m .length) (omega (arith, a .short)))
+    body-present 0 4 (bytes (m .length) ++ rest) (λ b rest. length-read (number b 0) rest) (omega arith)
+    ∙ ap (λ (n : ℕ). length-read n rest) (number-bytes (m .length) (omega (arith, a .short)))
     ∙ rw long
-    (body-present 5 8 (region-bytes (m .kernel) ++ domains) (λ c after. after-kernel (m .length) (region-of c 0) after) (omega arith))
-    ∙ ap (λ (r : Region). after-kernel (m .length) r domains)
+    (body-present 5 8 (region-bytes (m .kernel) ++ domains) (λ c after. kernel-read (m .length) (region-of c 0) after) (omega arith))
+    ∙ ap (λ (r : Region). kernel-read (m .length) r domains)
     (region-back (m .kernel) (within-narrow (m .length) (m .kernel) (a .short) (a .kernel)))
     ∙ rw (a .kernel)
     (domains-back m g s a (m .count) most 14 (beginning-map (m .length) (m .kernel)) (beginning (m .length) (m .kernel))
@@ -95,11 +87,11 @@ pub write-after-read :
     → Shaped m g × (accepts m g ≡ Verdict.Accepted) × (sheet-bytes m g ≡ s)
 unfolding sheet-read
 write-after-read s m g o e =
-    let p = record-known 0 1 4 s (λ b rest. after-length (number b 0) rest) m g e in
+    let p = record-known 0 1 4 s (λ b rest. length-read (number b 0) rest) m g e in
     let n = number (take 4 (p .rest)) 0 in
     let i = judged-known 0 (check (sized n) Refusal.Length)
-    (one-record 5 2 8 (drop 4 (p .rest)) (λ c after. after-kernel n (region-of c 0) after)) m g (p .next) in
-    let q = record-known 5 2 8 (drop 4 (p .rest)) (λ c after. after-kernel n (region-of c 0) after) m g (i .1) in
+    (one-record 5 2 8 (drop 4 (p .rest)) (λ c after. kernel-read n (region-of c 0) after)) m g (p .next) in
+    let q = record-known 5 2 8 (drop 4 (p .rest)) (λ c after. kernel-read n (region-of c 0) after) m g (i .1) in
     let r = region-of (take 8 (q .rest)) 0 in
     let j = judged-known 5 (check (within n r) Refusal.Bounds)
     (domains-read most 14 (beginning-map n r) (drop 8 (q .rest))) m g (q .next) in
