@@ -11,7 +11,7 @@ use Rattle.model.specs.Map.{no-map, Grid, no-grid, is-domain, domain, ma
 use Rattle.model.specs.Refusals.{check, _▸_, accepts}
 use Rattle.model.specs.Sheet.{Found, sheet-bytes, sheet-read}
 use Rattle.model.specs.States.{no-state, start, well-formed}
-use Rattle.model.specs.Events.{Outcome, event, Run, run, Trace, trace, Batch, batch}
+use Rattle.model.specs.Events.{Outcome, event, Run, run, Trace, trace-of, Batch, batch}
 use Rattle.model.specs.declared.map.Region.{Region}
 use Rattle.model.specs.declared.map.Map.{Map}
 use Rattle.model.specs.declared.map.Access.{Access}
@@ -116,7 +116,7 @@ played (Verdict.Refused x) s memory t r = left (record { close = Close.Refused x
 
 unfoldable pub player : Map → Grid → State → List ℕ → List ℕ → Left Played (List ℕ)
 player m g s memory bytes =
-    let t = trace (length bytes) 0 bytes in
+    let t = trace-of 0 bytes in
     played (node-verdict m g s memory) s memory t (run m g s memory (t .events))
 
 -- ---- batch

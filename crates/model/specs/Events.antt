@@ -147,11 +147,14 @@ at-end [] t = ended Close.Done
 at-end (b ∷ rest) t = t
 
 -- "Playing a trace stops at its first broken record with 11 or 12, its offset and the events done": the events before it, and how it closes.
--- A record takes a byte at least, so as many rounds as there are bytes are enough
+-- A record takes a byte at least, so as many rounds as there are bytes are enough (`rounds-enough`)
 unfoldable pub trace : ℕ → ℕ → List ℕ → Trace
 trace zero at s = ended Close.Done
 trace (suc rounds) at s =
     let t = next at (event-read s) (λ n. trace rounds (at + n) (drop n s)) in at-end s t
+
+abbrev pub trace-of : ℕ → List ℕ → Trace
+trace-of at s = trace (length s) at s
 
 -- ---- a batch: "takes a limit of steps and stops early when idle; it reports how many steps were not idle"
 

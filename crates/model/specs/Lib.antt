@@ -30,6 +30,7 @@ pub mod Instructions
 pub mod InstructionsLaws
 pub mod Events
 pub mod EventsLaws
+pub mod TraceLaws
 pub mod Calls
 pub mod Whole
 pub mod Samples

@@ -7,10 +7,12 @@ use mathlib.Core.Bool.{true, false}
 use mathlib.Core.List.{List, [], _∷_, map}
 use mathlib.Core.Option.{Option, none, some}
 use lib.ListN.{replicate}
-use Rattle.model.specs.Map.{most, inside, overlaps, absent, no-grid, may, granted, lowest}
+use lib.Seq.{sets}
+use Rattle.model.specs.Map.{most, inside, overlaps, absent, no-grid, may, granted, Rights, lowest}
 use Rattle.model.specs.Sheet.{Found, mark, channels-read}
-use Rattle.model.specs.States.{empty-box, fill, blank, register, with-status, with-box, woken, switch, well-formed}
-use Rattle.model.specs.Instructions.{Deed, Plan, work}
+use Rattle.model.specs.States.{empty-box, fill, blank, register, set-register, with-counter, with-status, with-box, woken, switch, well-formed}
+use Rattle.model.specs.Instructions.{Deed, Plan, work, plan, kept, carry}
+use Rattle.model.specs.Events.{trace-of}
 use Rattle.model.specs.Whole.{whole}
 use Rattle.model.specs.declared.map.Region.{Region}
 use Rattle.model.specs.declared.map.Domain.{Domain}
@@ -21,6 +23,9 @@ use Rattle.model.specs.declared.state.Status.{Status}
 use Rattle.model.specs.declared.state.Context.{Context}
 use Rattle.model.specs.declared.state.State.{State}
 use Rattle.model.specs.declared.instruction.Effect.{Effect}
+use Rattle.model.specs.declared.state.Reason.{Reason}
+use Rattle.model.specs.declared.event.Event.{Event}
+use Rattle.model.specs.declared.call.Close.{Close}
 
 abbrev region : ℕ → ℕ → Region
 region b e = record { begin = b; end = e }
@@ -129,3 +134,41 @@ receive-sample :
     ≡ some 77 ∷ some 2 ∷ none ∷ []
 unfolding whole
 receive-sample = refl
+
+-- ---- the paper's "errors that look right"
+
+abbrev own-rights : Rights
+own-rights = record { allows = may gapped; sends = λ t. true }
+
+abbrev zeroed : List ℕ
+zeroed = replicate 100 0
+
+-- a word at data's end is stored; one byte further none of it is
+store-sample :
+    map (λ a. carry own-rights zeroed (Plan.store a (1 ∷ 2 ∷ 3 ∷ 4 ∷ []) blank)) (92 ∷ 93 ∷ [])
+    ≡ kept (sets zeroed 92 (1 ∷ 2 ∷ 3 ∷ 4 ∷ [])) (Deed.runs blank) ∷ kept zeroed (Deed.faults (Reason.Write 96)) ∷ []
+unfolding whole
+store-sample = refl
+
+-- a copy with bad registers: at 60 the first is told; at 62 its body runs past the code, which is told before;
+-- an unknown kind at 63 is told before its body is looked for
+order-sample :
+    map (λ n. carry own-rights (sets zeroed 60 (2 ∷ 9 ∷ 2 ∷ 20 ∷ [])) (plan (with-counter blank n)) .deed) (60 ∷ 62 ∷ 63 ∷ [])
+    ≡ Deed.faults (Reason.Register 9) ∷ Deed.faults (Reason.Fetch 64) ∷ Deed.faults (Reason.Kind 20) ∷ []
+unfolding whole
+order-sample = refl
+
+-- the word sent from R0 is what stood there before
+abbrev seven : Context
+seven = set-register blank 0 7
+
+send-sample : work Effect.Send (2 ∷ 0 ∷ []) seven seven ≡ Plan.pass 2 7 seven
+unfolding whole
+send-sample = refl
+
+-- the offset of a broken record is its kind byte's, and the events before it stand
+trace-sample :
+    trace-of 0 (1 ∷ 3 ∷ 2 ∷ 5 ∷ 0 ∷ 0 ∷ 0 ∷ 2 ∷ 3 ∷ 1 ∷ [])
+    ≡ record { events = Event.Step ∷ Event.WordIn 2 5 ∷ Event.Tick ∷ []; close = Close.Broken Refusal.EventShort 8 }
+unfolding whole
+trace-sample = refl

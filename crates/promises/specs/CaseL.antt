@@ -10,7 +10,7 @@ use Rattle.model.specs.Map.{absent, no-grid, Grid}
 use Rattle.model.specs.Refusals.{accepts}
 use Rattle.model.specs.Sheet.{Found, mark, sheet-bytes, sheet-read}
 use Rattle.model.specs.States.{start, well-formed}
-use Rattle.model.specs.Events.{trace, run}
+use Rattle.model.specs.Events.{trace-of, run}
 use Rattle.model.specs.Whole.{whole}
 use Rattle.model.specs.declared.map.Region.{Region}
 use Rattle.model.specs.declared.map.Domain.{Domain}
@@ -66,16 +66,16 @@ L-reads-back = refl
 
 -- the eight lines and the last: "active 0"
 pub L-answers :
-    run L-map L-grid (start L-map) L-memory (trace (length L-trace) 0 L-trace .events) .answers
+    run L-map L-grid (start L-map) L-memory (trace-of 0 L-trace .events) .answers
     ≡ Answer.Ran 1 ∷ Answer.Faulted 1 (Reason.Write 128) ∷ Answer.Waits 2 ∷ Answer.Idle
     ∷ Answer.Taken 2 ∷ Answer.Ran 2 ∷ Answer.Halted 2 ∷ Answer.Idle ∷ []
 unfolding whole
 L-answers = refl
 
-pub L-closes : trace (length L-trace) 0 L-trace .close ≡ Close.Done
+pub L-closes : trace-of 0 L-trace .close ≡ Close.Done
 unfolding whole
 L-closes = refl
 
-pub L-last : run L-map L-grid (start L-map) L-memory (trace (length L-trace) 0 L-trace .events) .state .active ≡ 0
+pub L-last : run L-map L-grid (start L-map) L-memory (trace-of 0 L-trace .events) .state .active ≡ 0
 unfolding whole
 L-last = refl

@@ -8,6 +8,7 @@
 --     Kept        the start is well formed, and every event keeps a state so
 --     Fair        a domain that stays ready is active after at most N - 1 switches
 --     Batches     a batch's number
+--     Traces      a broken record keeps the events before it
 --     Sheets      read after write, write after read, the length
 --     Met         the premises can be met
 pub mod CaseL
@@ -19,5 +20,6 @@ pub mod Faults
 pub mod Kept
 pub mod Fair
 pub mod Batches
+pub mod Traces
 pub mod Sheets
 pub mod Met
