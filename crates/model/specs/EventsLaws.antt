@@ -1,4 +1,4 @@
--- Laws of Events: a step on an idle node and on one that is not; the active domain stays one of the map's, or 0.
+-- Laws of Events: a step on an idle node and on one that is not; what a step answers; the active domain stays one of the map's, or 0.
 -- Assumes nothing.
 use Prim.Native.Nat.{ℕ, _≤_}
 use mathlib.Core.Path.{_≡_}
@@ -14,6 +14,7 @@ use Rattle.model.specs.Instructions.{Deed, Done}
 use Rattle.model.specs.Events.{Outcome, gives, sent, perform, attempt, step, tick, word-in, event}
 use Rattle.model.specs.declared.event.Event.{Event}
 use Rattle.model.specs.declared.map.Map.{Map}
+use Rattle.model.specs.declared.state.Reason.{Reason}
 use Rattle.model.specs.declared.state.State.{State}
 use Rattle.model.specs.declared.event.Answer.{Answer}
 
@@ -28,6 +29,19 @@ module _ (m : Map) (g : Grid) (s : State) (memory : List ℕ) where
   pub step-acts : eqb (s .active) 0 ≡ false → step m g s memory ≡ acts (m .count) s (attempt m g s memory)
   unfolding step
   step-acts e = rw e
+
+-- "ran d, waits d, halted d, faulted d with reason": what holds of these four for the active domain holds of a deed's answer
+pub deed-answer :
+    (P : Answer → Type 0) (count : ℕ) (s : State) (memory : List ℕ) (x : Deed)
+    → P (Answer.Ran (s .active)) → P (Answer.Waits (s .active)) → P (Answer.Halted (s .active))
+    → ((r : Reason) → P (Answer.Faulted (s .active) r)) → P (perform count s memory x .answer)
+unfolding perform
+deed-answer P count s memory (Deed.runs c) ran waits halted faulted = ran
+deed-answer P count s memory (Deed.gives-way c) ran waits halted faulted = ran
+deed-answer P count s memory Deed.waits ran waits halted faulted = waits
+deed-answer P count s memory Deed.halts ran waits halted faulted = halted
+deed-answer P count s memory (Deed.faults r) ran waits halted faulted = faulted r
+deed-answer P count s memory (Deed.sends t w c) ran waits halted faulted = ran
 
 -- ---- the active domain
 

@@ -13,9 +13,8 @@ use lib.ListN.{replicate}
 use Rattle.model.specs.Basics.{if_then_else_}
 use Rattle.model.specs.BasicsLaws.{by-bool}
 use Rattle.model.specs.Map.{Grid}
-use Rattle.model.specs.Instructions.{Deed}
-use Rattle.model.specs.Events.{perform, attempt, step, event, run, batch}
-use Rattle.model.specs.EventsLaws.{step-idle, step-acts}
+use Rattle.model.specs.Events.{attempt, step, event, run, batch}
+use Rattle.model.specs.EventsLaws.{step-idle, step-acts, deed-answer}
 use Rattle.model.specs.declared.map.Map.{Map}
 use Rattle.model.specs.declared.state.State.{State}
 use Rattle.model.specs.declared.event.Event.{Event}
@@ -40,16 +39,6 @@ busy (a ∷ rest) = if is-idle a then busy rest else busy rest + 1
 
 abbrev pub steps : ℕ → List Event
 steps limit = replicate limit Event.Step
-
-perform-busy :
-    (count : ℕ) (s : State) (memory : List ℕ) (x : Deed) → is-idle (perform count s memory x .answer) ≡ false
-unfolding perform
-perform-busy count s memory (Deed.runs c) = refl
-perform-busy count s memory (Deed.gives-way c) = refl
-perform-busy count s memory Deed.waits = refl
-perform-busy count s memory Deed.halts = refl
-perform-busy count s memory (Deed.faults r) = refl
-perform-busy count s memory (Deed.sends t w c) = refl
 
 module _ (m : Map) (g : Grid) where
   abbrev Counts : State → List ℕ → ℕ → Type 0
@@ -78,7 +67,7 @@ module _ (m : Map) (g : Grid) where
       let rest = batch-counts (o .state) (o .memory) n in
       let b : is-idle (o .answer) ≡ false =
       ap (λ x. is-idle (x .answer)) (step-acts m g s memory e)
-      ∙ perform-busy (m .count) s _ (attempt m g s memory .deed) in
+      ∙ deed-answer (λ a. is-idle a ≡ false) (m .count) s _ (attempt m g s memory .deed) refl refl refl (λ r. refl) in
       rw (e, b) (ap (λ k. k + 1) (rest .0), rest .1, rest .2))
 
   pub batch-ends :

@@ -22,7 +22,7 @@ use Rattle.model.specs.MapLaws.{lowest-none, may-read}
 use Rattle.model.specs.States.{context, own, full}
 use Rattle.model.specs.Instructions.{Plan, Deed, Done, peek, carry, plan}
 use Rattle.model.specs.Events.{Outcome, answer-domain, gives, perform, attempt, step, tick, word-in, event}
-use Rattle.model.specs.EventsLaws.{acts, step-idle, step-acts}
+use Rattle.model.specs.EventsLaws.{acts, step-idle, step-acts, deed-answer}
 use Rattle.model.specs.declared.map.Map.{Map}
 use Rattle.model.specs.declared.map.Access.{Access}
 use Rattle.model.specs.declared.state.State.{State}
@@ -87,21 +87,11 @@ perform-hands-on count s memory (Deed.faults r) = refl
 perform-hands-on count s memory (Deed.sends t w c) = refl
 
 -- a step's answer names the domain that was active, and idle nobody
-perform-names :
-    (count : ℕ) (s : State) (memory : List ℕ) (x : Deed) → answer-domain (perform count s memory x .answer) ≡ s .active
-unfolding perform
-perform-names count s memory (Deed.runs c) = refl
-perform-names count s memory (Deed.gives-way c) = refl
-perform-names count s memory Deed.waits = refl
-perform-names count s memory Deed.halts = refl
-perform-names count s memory (Deed.faults r) = refl
-perform-names count s memory (Deed.sends t w c) = refl
-
 pub step-names : (m : Map) (g : Grid) (s : State) (memory : List ℕ) → answer-domain (step m g s memory .answer) ≡ s .active
 step-names m g s memory =
     by-bool (eqb (s .active) 0)
     (λ e. rw (step-idle m g s memory e) (sym (eqb-true (s .active) 0 e)))
-    (λ e. rw (step-acts m g s memory e) (perform-names (m .count) s _ (attempt m g s memory .deed)))
+    (λ e. rw (step-acts m g s memory e) (deed-answer (λ a. answer-domain a ≡ s .active) (m .count) s _ (attempt m g s memory .deed) refl refl refl (λ r. refl)))
 
 -- two outcomes that differ in nothing but what the memories did before, where the domain may not read
 pub record Isolated (writes : ℕ → Bool) (memory memory′ : List ℕ) (o o′ : Outcome) : Type 0 where
