@@ -9,28 +9,32 @@
 --     Events         "Events"
 --     Calls          the public calls: the tests that each makes, and what it returns and leaves
 --     Whole          one name that opens all definitions
---     Samples        the definitions at both sides of an edge
+-- A file ..Edges has its section's definitions at both sides of an edge, by computation.
 pub mod Basics
 pub mod BasicsLaws
 pub mod Map
+pub mod MapEdges
 pub mod MapLaws
 pub mod Refusals
 pub mod RefusalsLaws
 pub mod Sheet
+pub mod ChannelEdges
 pub mod GridLaws
 pub mod ChannelLaws
 pub mod RecordLaws
 pub mod SheetLaws
 pub mod States
+pub mod StatesEdges
 pub mod StatesLaws
 pub mod SwitchLaws
 pub mod SoundLaws
 pub mod Table
 pub mod Instructions
+pub mod InstructionsEdges
 pub mod InstructionsLaws
 pub mod Events
+pub mod EventsEdges
 pub mod EventsLaws
 pub mod TraceLaws
 pub mod Calls
 pub mod Whole
-pub mod Samples

@@ -27,9 +27,12 @@ filled r = ltb (r .begin) (r .end)
 unfoldable pub overlaps : Region → Region → Bool
 overlaps r q = filled r && filled q && ltb (r .begin) (q .end) && ltb (q .begin) (r .end)
 
+abbrev pub region : ℕ → ℕ → Region
+region b e = record { begin = b; end = e }
+
 -- "Unused map entries and grid cells are zero or no."
 abbrev pub nowhere : Region
-nowhere = record { begin = 0; end = 0 }
+nowhere = region 0 0
 
 abbrev pub absent : Domain
 absent = record { code = nowhere; «data» = nowhere; entry = 0 }

@@ -28,7 +28,7 @@ refusal-number Refusal.EventShort = 12
 refusal-number Refusal.Malformed = 13
 refusal-number Refusal.NoDomain = 14
 
--- a verdict as the paper prints it: the number, or 0 where there is no refusal
+-- a verdict by the table's number; 0, which is none of them, where nothing is refused
 abbrev pub verdict-number : Verdict → ℕ
 verdict-number Verdict.Accepted = 0
 verdict-number (Verdict.Refused r) = refusal-number r

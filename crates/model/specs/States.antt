@@ -115,10 +115,11 @@ with-active s d = record { active = d; contexts = s .contexts }
 abbrev pub ready : State → ℕ → Bool
 ready s d = is-ready (context s d .status)
 
--- "Start: all ready, registers 0, counter at the entry, boxes empty, domain 1 active."
+-- "active 0 and every context zero and halted"
 abbrev pub no-state : State
 no-state = record { active = 0; contexts = replicate most blank }
 
+-- "Start: all ready, registers 0, counter at the entry, boxes empty, domain 1 active."
 abbrev pub at-entry : ℕ → Context
 at-entry entry = record { registers = replicate 8 0; counter = entry; status = Status.Ready; mailbox = empty-box }
 

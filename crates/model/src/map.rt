@@ -1,4 +1,4 @@
-// "Map and access": what a map holds. The channel grid stands beside it, as `[[bool; 8]; 8]` by value.
+// "Map and access": what a map holds. The channel grid stands beside it by value, `MOST` rows of `MOST` marks.
 use crate::MOST;
 
 // Half open: begin up to but without end.

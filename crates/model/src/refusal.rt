@@ -1,4 +1,4 @@
-// "Refusal numbers": one case a row of the table. Their numbers are `number` in specs/Refusals.antt.
+// "Refusal numbers": one case a row of the table. `refusal-number` in specs/Refusals.antt gives the number.
 pub enum Refusal {
     Short,
     Kind,

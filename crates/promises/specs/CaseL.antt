@@ -6,22 +6,18 @@ use mathlib.Core.Bool.{true}
 use mathlib.Core.List.{List, [], _∷_}
 use lib.ListN.{length, replicate}
 use lib.Seq.{sets}
-use Rattle.model.specs.Map.{absent, no-grid, Grid}
+use Rattle.model.specs.Map.{region, absent, no-grid, Grid}
 use Rattle.model.specs.Refusals.{accepts}
 use Rattle.model.specs.Sheet.{Found, mark, sheet-bytes, sheet-read}
 use Rattle.model.specs.States.{start, well-formed}
 use Rattle.model.specs.Events.{trace-of, run}
 use Rattle.model.specs.Whole.{whole}
-use Rattle.model.specs.declared.map.Region.{Region}
 use Rattle.model.specs.declared.map.Domain.{Domain}
 use Rattle.model.specs.declared.map.Map.{Map}
 use Rattle.model.specs.declared.call.Verdict.{Verdict}
 use Rattle.model.specs.declared.call.Close.{Close}
 use Rattle.model.specs.declared.state.Reason.{Reason}
 use Rattle.model.specs.declared.event.Answer.{Answer}
-
-abbrev pub region : ℕ → ℕ → Region
-region b e = record { begin = b; end = e }
 
 abbrev pub one : Domain
 one = record { code = region 32 64; «data» = region 64 96; entry = 32 }

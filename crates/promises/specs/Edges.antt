@@ -5,7 +5,7 @@ use mathlib.Core.Path.{_≡_, refl}
 use mathlib.Core.List.{List, [], _∷_, _++_}
 use lib.ListN.{replicate}
 use lib.Seq.{sets}
-use Rattle.model.specs.Map.{absent}
+use Rattle.model.specs.Map.{region, absent}
 use Rattle.model.specs.Refusals.{verdict-number, accepts}
 use Rattle.model.specs.States.{start}
 use Rattle.model.specs.Events.{run}
@@ -15,7 +15,7 @@ use Rattle.model.specs.declared.map.Map.{Map}
 use Rattle.model.specs.declared.state.Reason.{Reason}
 use Rattle.model.specs.declared.event.Event.{Event}
 use Rattle.model.specs.declared.event.Answer.{Answer}
-use Rattle.promises.specs.CaseL.{region, one, two, L-map, L-grid}
+use Rattle.promises.specs.CaseL.{one, two, L-map, L-grid}
 
 -- what the definitions give, and what the paper says
 pub data Says : Type 0 where

@@ -1,10 +1,11 @@
 -- Demand 2: an access that is denied does not happen at all, and one that is allowed happens whole.
 --     fault-only     a fault sets the status, and the switch the active domain; nothing else changes
+--     fault-earned   no fault without its cause: a denied address, a channel not granted, a kind above 19, a register above 7
 --     all-or-none    a store sets every byte where each is allowed, and none where one is denied, and reports the lowest of those
 --     only-stores    nothing but a store changes memory
 -- Assumes nothing.
 use Prim.Native.Nat.{ℕ}
-use mathlib.Core.Path.{_≡_, refl, sym, ap, _∙_}
+use mathlib.Core.Path.{_≡_, refl, sym, ap, _∙_, subst}
 use mathlib.Core.List.{List}
 use mathlib.Core.Logic.{_⊎_, inl, inr}
 use mathlib.Core.Option.{none, some}
@@ -16,6 +17,7 @@ use Rattle.model.specs.BasicsLaws.{by-bool, by-option, either}
 use Rattle.model.specs.Map.{Grid, is-domain, Rights, rights, lowest}
 use Rattle.model.specs.States.{full, with-status, context, own, put-own, switch}
 use Rattle.model.specs.Instructions.{Plan, Deed, Done, kept, denied, peek, carry, plan}
+use Rattle.model.specs.InstructionsLaws.{Earned, Fits, carry-each, plan-fits}
 use Rattle.model.specs.Events.{Outcome, gives, perform, attempt, tick, word-in, event}
 use Rattle.model.specs.EventsLaws.{acts, step-idle, step-acts}
 use Rattle.model.specs.declared.map.Map.{Map}
@@ -58,29 +60,44 @@ faulted count s memory r =
     gives (Answer.Faulted (s .active) r)
     (switch count (put-own s (with-status (own s) (Status.Faulted r)))) memory
 
-abbrev Explained : ℕ → State → List ℕ → ℕ → Reason → Outcome → Type 0
-Explained count s memory d r o = o .answer ≡ Answer.Faulted d r → (s .active ≡ d) × (o ≡ faulted count s memory r)
+-- an answer that is a fault comes from the active domain's instruction, and from nothing else
+abbrev Explained : Map → Grid → State → List ℕ → ℕ → Reason → Outcome → Type 0
+Explained m g s memory d r o =
+    o .answer ≡ Answer.Faulted d r
+    → (s .active ≡ d) × (attempt m g s memory .deed ≡ Deed.faults r) × (o ≡ faulted (m .count) s memory r)
 
-pub fault-only :
+explained :
     (m : Map) (g : Grid) (s : State) (memory : List ℕ) (e : Event) (d : ℕ) (r : Reason)
-    → event m g s memory e .answer ≡ Answer.Faulted d r
-    → (s .active ≡ d) × (event m g s memory e ≡ faulted (m .count) s memory r)
+    → Explained m g s memory d r (event m g s memory e)
 unfolding event tick word-in perform
-fault-only m g s memory Event.Step d r =
+explained m g s memory Event.Step d r =
     by-bool (eqb (s .active) 0)
-    (λ e. rw (step-idle m g s memory e) (λ h. ((cc), (cc))))
+    (λ e. rw (step-idle m g s memory e) (λ h. ((cc), (cc), (cc))))
     (λ e h.
     let a = step-acts m g s memory e in
     let x = attempt m g s memory in
     let f = perform-fault (m .count) s (x .memory) (x .deed) d r (sym (ap (λ o. o .answer) a) ∙ h) in
-    (f .0, a ∙ ap (acts (m .count) s) (carry-fault (rights m g (s .active)) memory (plan (own s)) r (f .1))))
-fault-only m g s memory Event.Tick d r =
-    either (Explained (m .count) s memory d r) (eqb (s .active) 0) (λ h. ((cc), (cc))) (λ h. ((cc), (cc)))
-fault-only m g s memory (Event.WordIn b w) d r =
-    let P : Outcome → Type 0 = Explained (m .count) s memory d r in
+    (f .0, f .1, a ∙ ap (acts (m .count) s) (carry-fault (rights m g (s .active)) memory (plan (own s)) r (f .1))))
+explained m g s memory Event.Tick d r =
+    either (Explained m g s memory d r) (eqb (s .active) 0) (λ h. ((cc), (cc), (cc))) (λ h. ((cc), (cc), (cc)))
+explained m g s memory (Event.WordIn b w) d r =
+    let P : Outcome → Type 0 = Explained m g s memory d r in
     either P (is-domain (m .count) b)
-    (either P (full (context s b .mailbox)) (λ h. ((cc), (cc))) (λ h. ((cc), (cc))))
-    (λ h. ((cc), (cc)))
+    (either P (full (context s b .mailbox)) (λ h. ((cc), (cc), (cc))) (λ h. ((cc), (cc), (cc))))
+    (λ h. ((cc), (cc), (cc)))
+
+module _ (m : Map) (g : Grid) (s : State) (memory : List ℕ) (e : Event) (d : ℕ) (r : Reason) where
+  pub fault-only :
+      event m g s memory e .answer ≡ Answer.Faulted d r
+      → (s .active ≡ d) × (event m g s memory e ≡ faulted (m .count) s memory r)
+  fault-only h = let x = explained m g s memory e d r h in (x .0, x .2)
+
+  -- no fault without its cause
+  pub fault-earned : event m g s memory e .answer ≡ Answer.Faulted d r → Earned (rights m g (s .active)) r
+  fault-earned h =
+      let q = rights m g (s .active) in
+      let f = carry-each (Fits q (own s)) q (λ r e. e) memory (plan (own s)) (plan-fits q (own s)) in
+      subst (Fits q (own s)) (explained m g s memory e d r h .1) f
 
 -- ---- a store
 

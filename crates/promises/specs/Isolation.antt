@@ -14,7 +14,7 @@ use mathlib.Core.Logic.{_≢_}
 use native.Mathlib.Omega.{arith}
 use lib.Dec.{eqb}
 use lib.ListN.{length, getD, set}
-use lib.Seq.{sets, getD-set-other, length-sets}
+use lib.Seq.{sets, getD-set-other}
 use borrow.Author.Tests.{eqb-true}
 use Rattle.model.specs.BasicsLaws.{by-bool, by-option, either, true-false}
 use Rattle.model.specs.Map.{Grid, is-domain, Rights, rights, domain, may, lowest}
@@ -139,11 +139,6 @@ untouched m g s memory x e =
     ap (λ l. getD l x 0) (w .here)
     ∙ sets-elsewhere memory (w .place) (w .bytes) x
     (λ i h f. true-false (ap (may (domain m (s .active)) Access.Write) f ∙ w .allowed i h) e)
-
-pub as-long : (m : Map) (g : Grid) (s : State) (memory : List ℕ) → length (step m g s memory .memory) ≡ length memory
-as-long m g s memory =
-    let w = isolated m g s memory memory (λ a h. refl) .written in
-    ap length (w .here) ∙ length-sets memory (w .place) (w .bytes)
 
 pub tick-elsewhere : (m : Map) (g : Grid) (s : State) (memory : List ℕ) → event m g s memory Event.Tick .memory ≡ memory
 unfolding event tick

@@ -99,7 +99,7 @@ step-keeps m g s memory h =
     by-bool (eqb (s .active) 0) (λ e. rw e (h, refl))
     (λ e. let f : s .active ≢ 0 = eqb-false (s .active) 0 e in
     rw e (perform-keeps q (m .count) (length memory) s _ _ h (omega arith) (granted-domain (m .count) g (s .active))
-    (carry-each (Fits q c) (λ r. tt) q memory (plan c) (plan-fits q c)) (carry-long q memory (plan c))))
+    (carry-each (Fits q c) q (λ r e. e) memory (plan c) (plan-fits q c)) (carry-long q memory (plan c))))
 
 -- ---- a tick, a word in
 

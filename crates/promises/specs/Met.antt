@@ -9,7 +9,7 @@ use lib.Dec.{leb, ltb}
 use lib.ListN.{replicate}
 use borrow.Author.Tests.{ltb-true, leb-true}
 use Rattle.model.specs.BasicsLaws.{by-bool, and-left, and-right}
-use Rattle.model.specs.Map.{absent, inside, Grid, no-grid, domain, is-domain, may, granted}
+use Rattle.model.specs.Map.{region, absent, inside, Grid, no-grid, domain, is-domain, may, granted}
 use Rattle.model.specs.MapLaws.{inside-from, inside-below, inside-between}
 use Rattle.model.specs.Sheet.{mark, sheet-bytes}
 use Rattle.model.specs.GridLaws.{Shaped, no-grid-square, mark-square}
@@ -18,7 +18,7 @@ use Rattle.model.specs.Whole.{whole}
 use Rattle.model.specs.declared.map.Domain.{Domain}
 use Rattle.model.specs.declared.map.Map.{Map}
 use Rattle.model.specs.declared.map.Access.{Access}
-use Rattle.promises.specs.CaseL.{region, one, L-map, L-grid, L-acceptable}
+use Rattle.promises.specs.CaseL.{one, L-map, L-grid, L-acceptable}
 use Rattle.promises.specs.Wider.{Wider}
 
 one-or-two : (P : ℕ → Type 0) → P 1 → P 2 → (d : ℕ) → 1 ≤ d → d ≤ 2 → P d
