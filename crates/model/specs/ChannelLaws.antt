@@ -6,18 +6,18 @@
 -- Assumes nothing.
 use Prim.Native.Nat.{ℕ, zero, suc, _+_, _-_, _*_, _≤_, _<_}
 use mathlib.Core.Path.{_≡_, refl, sym, ap, _∙_}
-use mathlib.Core.Bool.{true, false, _&&_, not}
+use mathlib.Core.Bool.{true, false}
 use mathlib.Core.List.{List, [], _∷_, _++_}
 use native.Mathlib.Omega.{arith}
 use lib.Dec.{leb, ltb, eqb}
 use lib.ListN.{length}
 use borrow.Author.Tests.{ltb-true, ltb-false, leb-true, le-leb, eqb-true}
 use Rattle.model.specs.BasicsLaws.{by-bool, and-left, and-right, and-both}
-use Rattle.model.specs.Map.{most, Grid, no-grid, is-domain}
+use Rattle.model.specs.Map.{most, Grid, no-grid}
 use Rattle.model.specs.Refusals.{check, cell, from, to, is-channel}
 use Rattle.model.specs.RefusalsLaws.{check-true, cell-good}
 use Rattle.model.specs.Sheet.{Found, judged, four-or-five, place, rising, mark, channel-records, channels-read}
-use Rattle.model.specs.GridLaws.{Square, no-grid-square, no-grid-unmarked, Ends, Unmarked, marks, grid-equal, from-place, to-place, place-ends, mark-square, mark-there, mark-elsewhere}
+use Rattle.model.specs.GridLaws.{Square, no-grid-square, no-grid-unmarked, Ends, channel-ends, Unmarked, marks, grid-equal, from-place, to-place, place-ends, mark-square, mark-there, mark-elsewhere}
 use Rattle.model.specs.declared.map.Map.{Map}
 use Rattle.model.specs.declared.refusal.Refusal.{Refusal}
 use Rattle.model.specs.declared.call.Verdict.{Verdict}
@@ -143,17 +143,10 @@ module _ (m : Map) (few : m .count ≤ most) (m′ : Map) (g : Grid) where
         spelt = rw (skip acc p n (most * most) 0 (omega arith) (omega arith) void);
       }
 
-  ends-known : (f t : ℕ) → is-channel (m .count) f t ≡ true → Ends f t
+  ends-known : (f t : ℕ) → is-channel (m .count) f t ≡ true → Ends most f t
   ends-known f t c =
-      let d = and-left (is-domain (m .count) f && is-domain (m .count) t) (not (eqb f t)) c in
-      let a = and-left (is-domain (m .count) f) (is-domain (m .count) t) d in
-      let b = and-right (is-domain (m .count) f) (is-domain (m .count) t) d in
-      record {
-        from-low = leb-true 1 f (and-left _ (leb f (m .count)) a);
-        from-high = omega (arith, leb-true f (m .count) (and-right (leb 1 f) _ a));
-        to-low = leb-true 1 t (and-left _ (leb t (m .count)) b);
-        to-high = omega (arith, leb-true t (m .count) (and-right (leb 1 t) _ b));
-      }
+      let e = channel-ends (m .count) f t c in
+      record { from-low = e .from-low; from-high = omega arith; to-low = e .to-low; to-high = omega arith }
 
   marked-then :
       (acc : Grid) (p f t n n′ : ℕ) (rest : List ℕ) → Square acc → Unmarked acc p (most * most)

@@ -16,9 +16,10 @@ use lib.ListN.{length, getD, set, replicate, length-set, getD-replicate}
 use lib.Seq.{getD-set-same, getD-set-other, ext-getD}
 use borrow.Author.Tests.{eqb-true, eqb-false, not-true}
 use Rattle.model.specs.Basics.{if_then_else_}
-use Rattle.model.specs.BasicsLaws.{by-bool, and-right}
+use Rattle.model.specs.BasicsLaws.{by-bool, and-left, and-right}
 use Rattle.model.specs.Map.{most, Grid, no-grid, marked, is-domain}
-use Rattle.model.specs.Refusals.{cell, from, to}
+use Rattle.model.specs.MapLaws.{in-range}
+use Rattle.model.specs.Refusals.{cell, from, to, is-channel}
 use Rattle.model.specs.RefusalsLaws.{cell-good}
 use Rattle.model.specs.Sheet.{place, mark}
 use Rattle.model.specs.declared.map.Map.{Map}
@@ -100,23 +101,30 @@ no-grid-square =
 
 -- ---- marks
 
--- the two ends of a channel are numbers from 1 to 8
-pub record Ends (f t : ℕ) : Type 0 where
+-- the two ends of a channel are numbers from 1 to n
+pub record Ends (n f t : ℕ) : Type 0 where
   pub from-low : 1 ≤ f
-  pub from-high : f ≤ most
+  pub from-high : f ≤ n
   pub to-low : 1 ≤ t
-  pub to-high : t ≤ most
+  pub to-high : t ≤ n
 
-pub from-place : (f t : ℕ) → Ends f t → from (place f t) ≡ f
+pub channel-ends : (n f t : ℕ) → is-channel n f t ≡ true → Ends n f t
+channel-ends n f t e =
+    let d = and-left (is-domain n f && is-domain n t) (not (eqb f t)) e in
+    let a = in-range n f (and-left _ (is-domain n t) d) in
+    let b = in-range n t (and-right (is-domain n f) _ d) in
+    record { from-low = a .0; from-high = a .1; to-low = b .0; to-high = b .1 }
+
+pub from-place : (f t : ℕ) → Ends most f t → from (place f t) ≡ f
 from-place f t e = omega arith
 
-pub to-place : (f t : ℕ) → Ends f t → to (place f t) ≡ t
+pub to-place : (f t : ℕ) → Ends most f t → to (place f t) ≡ t
 to-place f t e = omega arith
 
 pub place-ends : (p : ℕ) → place (from p) (to p) ≡ p
 place-ends p = omega arith
 
-module _ (g : Grid) (s : Square g) (f t : ℕ) (e : Ends f t) where
+module _ (g : Grid) (s : Square g) (f t : ℕ) (e : Ends most f t) where
   row : getD (mark g f t) (f - 1) [] ≡ set (getD g (f - 1) []) (t - 1) true
   row = getD-set-same g (f - 1) (set (getD g (f - 1) []) (t - 1) true) [] (omega (arith, s .rows))
 

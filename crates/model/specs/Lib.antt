@@ -17,6 +17,7 @@ pub mod MapEdges
 pub mod MapLaws
 pub mod Refusals
 pub mod RefusalsLaws
+pub mod TestLaws
 pub mod Sheet
 pub mod ChannelEdges
 pub mod GridLaws

@@ -1,6 +1,6 @@
--- Laws of Sheet: a run of domain records.
+-- Laws of Sheet: a run of domain records, and the sheet's length.
 --     Agree                 two maps that give the same verdict on a domain, by verdict-agrees
---     domains-length        how many bytes they are
+--     domains-length        how many bytes they are; sheet-length: a sheet is 15 + 21N + 3G bytes
 --     domains-back          written and read back with what follows, they give the map and the grid
 --     domains-known         what a reading of them tells: written again, they are the bytes that were read
 -- Assumes nothing.
@@ -11,7 +11,7 @@ use mathlib.Core.Bool.{true, _&&_, not}
 use mathlib.Core.List.{List, [], _∷_, _++_}
 use native.Mathlib.Omega.{arith}
 use lib.Dec.{ltb, eqb}
-use lib.ListN.{length, take, drop, length-set}
+use lib.ListN.{length, take, drop, length-set, length-append}
 use lib.Seq.{getD-set-same, getD-set-other, ext-getD}
 use borrow.Author.Tests.{ltb-true, ltb-false, eqb-true, eqb-false, ne-eqb}
 use Rattle.model.specs.Basics.{bytes}
@@ -19,9 +19,9 @@ use Rattle.model.specs.BasicsLaws.{by-bool, and-left, and-right}
 use Rattle.model.specs.Map.{most, nowhere, absent, Grid, no-grid, overlaps, nth}
 use Rattle.model.specs.Refusals.{clear, zero-region, zero-domain, domain-verdict, cell}
 use Rattle.model.specs.RefusalsLaws.{domain-accepted, cell-good, entry-good, Acceptable}
-use Rattle.model.specs.Sheet.{Found, judged, region-bytes, domain-record, domain-of, with-domain, domain-records, domains-read, channel-records, channels-read}
-use Rattle.model.specs.GridLaws.{Square, Shaped, square}
-use Rattle.model.specs.ChannelLaws.{closing, one-more, not-refused, judged-known, channels-back, channels-known}
+use Rattle.model.specs.Sheet.{Found, judged, region-bytes, domain-record, domain-of, with-domain, domain-records, domains-read, channel-records, channels-read, sheet-bytes}
+use Rattle.model.specs.GridLaws.{Square, Shaped, square, channel-count}
+use Rattle.model.specs.ChannelLaws.{closing, channels-length, one-more, not-refused, judged-known, channels-back, channels-known}
 use Rattle.model.specs.RecordLaws.{Small, verdict-small, domain-back, body-present, body-known, Octets, octets-drop, domain-spelt}
 use Rattle.model.specs.declared.map.Region.{Region}
 use Rattle.model.specs.declared.map.Domain.{Domain}
@@ -46,6 +46,10 @@ pub domains-length : (m : Map) (i n : ℕ) → length (domain-records m i n) ≡
 unfolding domain-records
 domains-length m i zero = refl
 domains-length m i (suc n) = omega (arith, domains-length m (i + 1) n)
+
+pub sheet-length : (m : Map) (g : Grid) → length (sheet-bytes m g) ≡ 15 + 21 * m .count + 3 * channel-count g
+unfolding sheet-bytes channel-count
+sheet-length m g = simp (length-append, domains-length, channels-length) (omega arith)
 
 -- ---- a verdict on a domain turns on what stands before it alone
 

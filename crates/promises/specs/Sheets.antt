@@ -1,15 +1,15 @@
--- Document 01, "The sheet": writing and reading undo each other, and a sheet's length.
+-- Document 01, "The sheet": writing and reading undo each other, and how long a sheet is.
 --     read-after-write      an acceptable map and grid come back whole
 --     write-after-read      bytes that read whole are the sheet of what they read as, and that is acceptable
---     sheet-length          15 + 21N + 3G bytes; sheet-bounds: 36 to 351
+--     sheet-bounds          a sheet has 36 to 351 bytes, by sheet-length of SheetLaws: 15 + 21N + 3G
 -- Assumes nothing.
-use Prim.Native.Nat.{ℕ, suc, _+_, _*_, _≤_, _<_}
+use Prim.Native.Nat.{ℕ, suc, _≤_, _<_}
 use mathlib.Core.Path.{_≡_, refl, sym, ap, _∙_}
 use mathlib.Core.Bool.{true}
 use mathlib.Core.List.{List, _++_}
 use native.Mathlib.Omega.{arith}
 use lib.Dec.{leb}
-use lib.ListN.{length, getD, take, drop, getD-replicate, length-append}
+use lib.ListN.{length, getD, take, drop, getD-replicate}
 use borrow.Author.Tests.{leb-true, le-leb}
 use Rattle.model.specs.Basics.{bytes, number}
 use Rattle.model.specs.BasicsLaws.{and-left, and-right, and-both, number-bytes}
@@ -17,18 +17,14 @@ use Rattle.model.specs.Map.{most, absent, Grid}
 use Rattle.model.specs.Refusals.{check, sized, within, accepts}
 use Rattle.model.specs.RefusalsLaws.{check-true, Acceptable, acceptable, accept}
 use Rattle.model.specs.Sheet.{Found, kernel-read, length-read, one-record, length-record, region-bytes, kernel-record, region-of, beginning-map, domain-records, domains-read, sheet-bytes, sheet-read}
-use Rattle.model.specs.GridLaws.{Shaped, channel-count, channel-most}
-use Rattle.model.specs.ChannelLaws.{closing, judged-known, channels-length}
+use Rattle.model.specs.GridLaws.{Shaped, channel-most}
+use Rattle.model.specs.ChannelLaws.{closing, judged-known}
 use Rattle.model.specs.RecordLaws.{within-narrow, region-back, body-present, record-known, Octets, octets-drop, length-spelt, kernel-spelt}
-use Rattle.model.specs.SheetLaws.{Reading, entries-good, domains-length, domains-back, Domained, domains-known}
+use Rattle.model.specs.SheetLaws.{sheet-length, Reading, entries-good, domains-back, Domained, domains-known}
 use Rattle.model.specs.declared.map.Region.{Region}
 use Rattle.model.specs.declared.map.Map.{Map}
 use Rattle.model.specs.declared.refusal.Refusal.{Refusal}
 use Rattle.model.specs.declared.call.Verdict.{Verdict}
-
-pub sheet-length : (m : Map) (g : Grid) → length (sheet-bytes m g) ≡ 15 + 21 * m .count + 3 * channel-count g
-unfolding sheet-bytes channel-count
-sheet-length m g = simp (length-append, domains-length, channels-length) (omega arith)
 
 -- "36 to 351"
 pub sheet-bounds :
