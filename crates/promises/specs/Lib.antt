@@ -22,4 +22,5 @@ pub mod Fair
 pub mod Batches
 pub mod Traces
 pub mod Sheets
+pub mod Trips
 pub mod Met
