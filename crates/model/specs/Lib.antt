@@ -9,6 +9,7 @@
 --     Events         "Events"
 --     Calls          the public calls: the tests that each makes, and what it returns and leaves
 --     Whole          one name that opens all definitions
+--     TestLaws       for code that makes the definitions' tests one by one
 -- A file ..Edges has its section's definitions at both sides of an edge, by computation.
 pub mod Basics
 pub mod BasicsLaws

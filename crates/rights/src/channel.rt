@@ -5,6 +5,7 @@ ghost use Prim.Native.Nat.{_*_};
 ghost use Rattle.model.specs.Map.{most, is-domain};
 ghost use Rattle.model.specs.Refusals.{is-channel, channels-good};
 
+// "Numbers count from 1; domain 0 means the device or nobody."
 pub fn is_domain(count: u8, d: u8) -> bool
     ensures { λ x. ⌜ x ≡ is-domain count d ⌝ }
 {

@@ -16,6 +16,7 @@ ghost use Prim.Native.Nat.{_≤_};
 ghost use Rattle.model.specs.Map.{most, inside, may};
 ghost use Rattle.model.specs.Refusals.{counted, zero-domain, unused-zero, free-of, clear, domain-verdict, domains-verdict};
 
+// "may read an address in its code or data, write one in its data, fetch one from its code"
 pub fn may(d: Domain, k: Access, a: u64) -> bool
     ensures { λ x. ⌜ x ≡ may d k a ⌝ }
 {
@@ -43,6 +44,7 @@ pub fn counted(n: u8) -> bool
     (1 <= n) & ((n as usize) <= MOST)
 }
 
+// 2: "an unused map entry not all zero"
 pub fn unused_zero(m: Map) -> bool
     ensures { λ x. ⌜ x ≡ unused-zero m most ⌝ }
 {
