@@ -29,7 +29,9 @@ use Rattle.model.specs.declared.call.Writing.{Writing}
 use Rattle.promises.specs.Sheets.{read-after-write, write-after-read}
 
 -- the writer writes exactly if it accepts, and then the whole sheet
-wrote : (v : Verdict) (s buffer : List ℕ) (n : ℕ) → written v s buffer .value ≡ Writing.Wrote n → (v ≡ Verdict.Accepted) × (n ≡ length s)
+wrote :
+    (v : Verdict) (s buffer : List ℕ) (n : ℕ) → written v s buffer .value ≡ Writing.Wrote n
+    → (v ≡ Verdict.Accepted) × (n ≡ length s)
 wrote Verdict.Accepted s buffer n e = (refl, cc)
 wrote (Verdict.Refused r) s buffer n e = ((cc), (cc))
 
@@ -61,7 +63,9 @@ module _ (m : Map) (g : Grid) (buffer : List ℕ) (n : ℕ) (w : writer m g buff
   written-reads s =
       rw (told .0, take-at bytes (drop (length bytes) buffer) n (sym (told .1)), read-after-write m g s written-acceptable)
 
-whole-or-refused : {A : Type 0} (f : Found) → ((m : Map) (g : Grid) → f ≡ Found.whole m g → A) → ((r : Refusal) (at : ℕ) → f ≡ Found.refused r at → A) → A
+whole-or-refused :
+    {A : Type 0} (f : Found) → ((m : Map) (g : Grid) → f ≡ Found.whole m g → A)
+    → ((r : Refusal) (at : ℕ) → f ≡ Found.refused r at → A) → A
 whole-or-refused (Found.whole m g) a b = a m g refl
 whole-or-refused (Found.refused r at) a b = b r at refl
 

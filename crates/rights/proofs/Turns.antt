@@ -1,5 +1,5 @@
--- One turn of each loop, in the code's numbers: a loop that counts down goes from n to n - 1, one that counts up from i to i +
--- 1.
+-- One turn of each loop, in the code's numbers: a loop that counts down goes from n to n - 1, one that counts up from i to
+-- i + 1.
 -- Assumes nothing.
 use Prim.Native.Nat.{ℕ, zero, suc, _+_, _-_, _<_}
 use mathlib.Core.Path.{_≡_, refl}

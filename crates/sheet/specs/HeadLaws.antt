@@ -1,10 +1,10 @@
 -- Laws of Sheet, in the reader's terms: each answer on one record of one kind, and on the values of the first two.
 --     missing, other-kind   no record, and one of another kind
 --     body-cut, present     a record whose body is not there, and one whose body is
---     length-.., kernel-..  the first two records: refused, or there with a bad or a good value
+--     Form                  a record that stands once, as the first two do: refused, or there with a bad or a good value
 -- Assumes nothing.
 use Prim.Native.Nat.{ℕ, _+_, _-_, _≤_, _<_}
-use mathlib.Core.Path.{_≡_, sym, _∙_}
+use mathlib.Core.Path.{_≡_}
 use mathlib.Core.Bool.{Bool, true, false}
 use mathlib.Core.List.{List}
 use native.Mathlib.Omega.{arith}
@@ -13,12 +13,12 @@ use lib.Seq.{drop-drop}
 use borrow.Author.Tests.{eq-eqb, ne-eqb, le-leb, lt-leb}
 use Rattle.model.specs.Basics.{number}
 use Rattle.model.specs.Map.{most}
-use Rattle.model.specs.Refusals.{sized, within}
-use Rattle.model.specs.Sheet.{Found, region-of, beginning-map, domains-read, kernel-read, length-read, sheet-read}
+use Rattle.model.specs.Refusals.{check, sized, within}
+use Rattle.model.specs.Sheet.{Found, judged, one-record, region-of, beginning-map, domains-read}
 use Rattle.model.specs.declared.map.Region.{Region}
 use Rattle.model.specs.declared.refusal.Refusal.{Refusal}
 use Rattle.sheet.specs.DropLaws.{drop-end, drop-here}
-use Rattle.sheet.specs.Resumed.{Opens, kernel-left}
+use Rattle.sheet.specs.Resumed.{Opens}
 use Rattle.sheet.specs.declared.answer.Record.{Record}
 
 module _ (s : List ℕ) (at kind size : ℕ) where
@@ -49,35 +49,57 @@ module _ (s : List ℕ) (at kind size : ℕ) where
           fits = omega arith;
         }
 
--- the first two records: refused, and with their values judged
+-- a record that stands once, at a known place: its value, the test of it with its number, and what follows it
+pub record Form (A : Type 0) : Type 0 where
+  pub at : ℕ
+  pub kind : ℕ
+  pub size : ℕ
+  pub value : List ℕ → A
+  pub good : A → Bool
+  pub refusal : Refusal
+  pub next : A → List ℕ → Found
 
-module _ (s : List ℕ) where
-  pub length-refused : {r : Refusal} → Opens s 0 1 4 (Record.Refused r) → Found.refused r 0 ≡ sheet-read s
-  unfolding sheet-read
-  length-refused o = o .reads (λ b rest. length-read (number b 0) rest)
+abbrev pub go : {A : Type 0} → Form A → List ℕ → List ℕ → Found
+go f b rest = judged (f .at) (check (f .good (f .value b)) (f .refusal)) (f .next (f .value b) rest)
 
-  module _ (o : Opens s 0 1 4 Record.Present) {n : ℕ} (e : n ≡ number (take 4 (drop 1 s)) 0) where
-    length-judged : length-read n (drop 5 s) ≡ sheet-read s
-    unfolding sheet-read
-    length-judged = rw e (o .reads (λ b rest. length-read (number b 0) rest))
+abbrev pub reading : {A : Type 0} → Form A → List ℕ → Found
+reading f s = one-record (f .at) (f .kind) (f .size) (drop (f .at) s) (go f)
 
-    pub length-bad : {b : Bool} → b ≡ sized n → b ≡ false → Found.refused Refusal.Length 0 ≡ sheet-read s
-    length-bad f v = rw (sym f ∙ v) at length-judged
+abbrev pub kernel-form : ℕ → Form Region
+kernel-form n =
+    record {
+      at = 5;
+      kind = 2;
+      size = 8;
+      value = λ b. region-of b 0;
+      good = within n;
+      refusal = Refusal.Bounds;
+      next = λ k rest. domains-read most 14 (beginning-map n k) rest;
+    }
 
-    pub length-good : {b : Bool} → b ≡ sized n → b ≡ true → kernel-left s n ≡ sheet-read s
-    length-good f v = rw (sym f ∙ v) at length-judged
+abbrev pub length-form : Form ℕ
+length-form =
+    record {
+      at = 0;
+      kind = 1;
+      size = 4;
+      value = λ b. number b 0;
+      good = sized;
+      refusal = Refusal.Length;
+      next = λ n rest. one-record 5 2 8 rest (go (kernel-form n));
+    }
 
-module _ (s : List ℕ) (n : ℕ) where
-  pub kernel-refused : {r : Refusal} → Opens s 5 2 8 (Record.Refused r) → Found.refused r 5 ≡ kernel-left s n
-  kernel-refused o = o .reads (λ b rest. kernel-read n (region-of b 0) rest)
+module _ {A : Type 0} (f : Form A) (s : List ℕ) where
+  pub form-refused : {r : Refusal} → Opens s (f .at) (f .kind) (f .size) (Record.Refused r) → Found.refused r (f .at) ≡ reading f s
+  form-refused o = o .reads (go f)
 
-  module _ (o : Opens s 5 2 8 Record.Present) {k : Region} (e : k ≡ region-of (take 8 (drop 6 s)) 0) where
-    kernel-judged : kernel-read n k (drop 14 s) ≡ kernel-left s n
-    kernel-judged = rw e (o .reads (λ b rest. kernel-read n (region-of b 0) rest))
+  module _ (o : Opens s (f .at) (f .kind) (f .size) Record.Present) {v : A}
+      (e : v ≡ f .value (take (f .size) (drop (f .at + 1) s))) {b : Bool} (t : b ≡ f .good v) where
+    decided : judged (f .at) (check b (f .refusal)) (f .next v (drop (f .at + 1 + f .size) s)) ≡ reading f s
+    decided = rw (t, e) (o .reads (go f))
 
-    pub kernel-bad : {b : Bool} → b ≡ within n k → b ≡ false → Found.refused Refusal.Bounds 5 ≡ kernel-left s n
-    kernel-bad f v = rw (sym f ∙ v) at kernel-judged
+    pub form-bad : b ≡ false → Found.refused (f .refusal) (f .at) ≡ reading f s
+    form-bad x = rw x at decided
 
-    pub kernel-good :
-        {b : Bool} → b ≡ within n k → b ≡ true → domains-read most 14 (beginning-map n k) (drop 14 s) ≡ kernel-left s n
-    kernel-good f v = rw (sym f ∙ v) at kernel-judged
+    pub form-good : b ≡ true → f .next v (drop (f .at + 1 + f .size) s) ≡ reading f s
+    form-good x = rw x at decided

@@ -27,7 +27,6 @@ returns-2 c =
 
 domains-verdict-requires : tie.Need-domains-verdict-requires
 domains-verdict-requires c κs =
-    let at-before = c .before .before .before in
     let at-if1 = c .before .before .before .before in
     let at-counted = at-if1 .before .before in
     let at-args = at-counted .before .before in

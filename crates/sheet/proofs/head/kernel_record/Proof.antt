@@ -3,7 +3,7 @@
 use mathlib.Core.Path.{subst}
 use borrow.Author.Needs.{needs}
 use Rattle.sheet.specs.Resumed.{Opens}
-use Rattle.sheet.specs.HeadLaws.{kernel-refused, kernel-bad, kernel-good}
+use Rattle.sheet.specs.HeadLaws.{kernel-form, form-refused, form-bad, form-good}
 use Rattle.sheet.proofs.head.kernel_record.Statement.{statement}
 use Rattle.sheet.proofs.head.kernel_record.Tie as tie
 
@@ -13,14 +13,14 @@ part-region-of-end c = rw (c .enum-told .given .1) at (c .before .before .one-re
 returns : tie.Need-returns
 returns c =
     let at-one-record = c .before .before .before in
-    kernel-refused _ _ (subst (Opens _ _ _ _) (c .before .found .given .1) (at-one-record .one-record .ensures))
+    form-refused (kernel-form _) _ (subst (Opens _ _ _ _) (c .before .found .given .1) (at-one-record .one-record .ensures))
 
 returns-2 : tie.Need-returns-2
 returns-2 c =
     let at-region-of = c .before .before in
     let at-enum-told = at-region-of .before .before in
     let at-one-record = at-enum-told .before .before in
-    kernel-good _ _ (subst (Opens _ _ _ _) (at-enum-told .enum-told .given .1) (at-one-record .one-record .ensures))
+    form-good (kernel-form _) _ (subst (Opens _ _ _ _) (at-enum-told .enum-told .given .1) (at-one-record .one-record .ensures))
     (at-region-of .region-of .ensures) (c .before .within .ensures) (c .if1 .taken)
 
 returns-3 : tie.Need-returns-3
@@ -28,7 +28,7 @@ returns-3 c =
     let at-region-of = c .before .before in
     let at-enum-told = at-region-of .before .before in
     let at-one-record = at-enum-told .before .before in
-    kernel-bad _ _ (subst (Opens _ _ _ _) (at-enum-told .enum-told .given .1) (at-one-record .one-record .ensures))
+    form-bad (kernel-form _) _ (subst (Opens _ _ _ _) (at-enum-told .enum-told .given .1) (at-one-record .one-record .ensures))
     (at-region-of .region-of .ensures) (c .before .within .ensures) (c .if1 .left)
 
 pub kernel-record-spec : {M : Type 1} → statement M
