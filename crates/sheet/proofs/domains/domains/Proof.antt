@@ -9,6 +9,7 @@ use lib.ListN.{drop}
 use Rattle.model.specs.Map.{most}
 use Rattle.model.specs.Sheet.{domains-read}
 use Rattle.model.specs.declared.map.Map.{Map}
+use Rattle.sheet.specs.Resumed.{after-domain}
 use Rattle.sheet.proofs.domains.domains.Statement.{statement}
 use Rattle.sheet.proofs.domains.domains.Tie as tie
 
@@ -27,56 +28,44 @@ with-domain-requires : tie.Need-with-domain-requires Inv-loop μ-loop
 with-domain-requires c κs =
     (omega (arith, rw (c .before .found .given .1) at (c .before .before .before .domain-record .ensures .fits)), omega arith)
 
+-- what is left to read after a turn's answer is the reading from the start
+turn :
+    (c : tie.After-domain-record Inv-loop μ-loop) → let l = c .before .before .loop in
+    let a = c .before .before .before .before .before .args in
+    after-domain (a .s .now) (l .c) (most - (l .i + 1)) (c .domain-record .result)
+    ≡ domains-read most 14 (c .before .before .before .beginning-map .result) (drop 14 (a .s .now))
+turn c =
+    let l = c .before .before .loop in
+    let e : suc (most - (l .i + 1)) ≡ most - l .i = omega arith in
+    (rw e at (c .domain-record .ensures .reads (most - (l .i + 1)))) ∙ l .inv .2
+
 returns : tie.Need-returns Inv-loop μ-loop
 returns c =
     let at-domain-record = c .before .before .before in
-    let at-loop = at-domain-record .before .before in
-    let at-beginning-map = at-loop .before in
-    let l = at-loop .loop in
-    let e : suc (most - (l .i + 1)) ≡ most - l .i = omega arith in
+    let start = at-domain-record .before .before .before .beginning-map .ensures in
     rw (c .new .ensures)
-    record {
-      reads = (rw (c .before .enum-told .given .1, e) at (at-domain-record .domain-record .ensures .reads (most - (l .i + 1)))) ∙ l .inv .2
-          ∙ rw (at-beginning-map .beginning-map .ensures);
-      few = omega arith;
-    }
+    record { reads = (rw (c .before .enum-told .given .1) at (turn at-domain-record)) ∙ rw start; few = omega arith }
 
 returns-2 : tie.Need-returns-2 Inv-loop μ-loop
 returns-2 c =
-    let at-found2 = c .before .before in
-    let at-domain-record = at-found2 .before .before in
-    let at-loop = at-domain-record .before .before in
-    let at-beginning-map = at-loop .before in
-    let l = at-loop .loop in
-    let e : suc (most - (l .i + 1)) ≡ most - l .i = omega arith in
+    let at-domain-record = c .before .before .before .before in
+    let start = at-domain-record .before .before .before .beginning-map .ensures in
     rw (c .new2 .ensures)
-    record {
-      reads = (rw (at-found2 .found2 .given .1, e) at (at-domain-record .domain-record .ensures .reads (most - (l .i + 1)))) ∙ l .inv .2
-          ∙ rw (at-beginning-map .beginning-map .ensures);
-      few = omega arith;
-    }
+    record { reads = (rw (c .before .before .found2 .given .1) at (turn at-domain-record)) ∙ rw start; few = omega arith }
 
 loop-again : tie.Need-loop-again Inv-loop μ-loop
 loop-again c =
-    let at-found = c .before .before in
-    let at-domain-record = at-found .before .before in
-    let at-loop = at-domain-record .before .before in
-    let l = at-loop .loop in
-    let e : suc (most - (l .i + 1)) ≡ most - l .i = omega arith in
-    rw (c .with-domain .ensures) (
-      omega arith,
-      omega arith,
-      (rw (at-found .found .given .1, e) at (at-domain-record .domain-record .ensures .reads (most - (l .i + 1)))) ∙ l .inv .2,
-    )
+    rw (c .with-domain .ensures)
+    (omega arith, omega arith, rw (c .before .before .found .given .1) at (turn (c .before .before .before .before)))
 
 returns-3 : tie.Need-returns-3 Inv-loop μ-loop
 unfolding domains-read
 returns-3 c =
     let at-loop = c .before .before in
-    let at-beginning-map = at-loop .before in
     let l = at-loop .loop in
     let e : most - l .i ≡ 0 = omega arith in
-    rw (c .new3 .ensures) record { reads = (rw e at (l .inv .2)) ∙ rw (at-beginning-map .beginning-map .ensures); few = omega arith }
+    rw (c .new3 .ensures)
+    record { reads = (rw e at (l .inv .2)) ∙ rw (at-loop .before .beginning-map .ensures); few = omega arith }
 
 pub domains-spec : {M : Type 1} → statement M
 domains-spec =
