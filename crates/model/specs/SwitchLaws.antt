@@ -1,4 +1,5 @@
 -- Laws of States: the switch.
+--     after-some, after-within       the next domain is one of the map's
 --     walk, reach, nearest           the round that a switch goes: where it leads, and what it finds first
 --     found-within, -ready, -some    what a switch finds is a domain and ready, and is found if there is one
 --     switch-led                     so after a switch the active domain is as a well-formed state has it
@@ -23,10 +24,10 @@ unfoldable pub walk : ℕ → ℕ → ℕ → ℕ
 walk count a zero = a
 walk count a (suc j) = walk count (after count a) j
 
-after-some : (count a : ℕ) → 1 ≤ after count a
+pub after-some : (count a : ℕ) → 1 ≤ after count a
 after-some count a = by-bool (ltb a count) (λ t. rw t (omega arith)) (λ t. rw t (omega arith))
 
-after-within : (count a : ℕ) → 1 ≤ count → after count a ≤ count
+pub after-within : (count a : ℕ) → 1 ≤ count → after count a ≤ count
 after-within count a h = by-bool (ltb a count) (λ t. rw t (omega (arith, ltb-true a count t))) (λ t. rw t h)
 
 pub walk-some : (count a j : ℕ) → 1 ≤ a + j → 1 ≤ walk count a j

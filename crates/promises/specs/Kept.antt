@@ -37,7 +37,7 @@ start-formed m g e =
     let h = start-sound m (a .some) (a .few) in (sound-formed h, h .steady .long)
 
 -- what is shown of every outcome
-abbrev Keeps : ℕ → ℕ → Outcome → Type 0
+abbrev pub Keeps : ℕ → ℕ → Outcome → Type 0
 Keeps count long o = Sound count (o .state) × (length (o .memory) ≡ long)
 
 -- ---- a word in a box
@@ -130,7 +130,7 @@ word-in-keeps count s memory b w h =
 
 -- ---- any event, any run
 
-each-keeps :
+pub each-keeps :
     (m : Map) (g : Grid) (s : State) (memory : List ℕ) (e : Event) → Sound (m .count) s
     → Keeps (m .count) (length memory) (event m g s memory e)
 unfolding event
