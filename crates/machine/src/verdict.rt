@@ -1,0 +1,77 @@
+// The tests that the calls make: the map and grid, then 9, 13, 14 "as far as each applies".
+use model::MOST;
+use model::call::Ending;
+use model::call::Verdict;
+use model::map::Map;
+use model::refusal::Refusal;
+use model::state::State;
+use rights::acceptable;
+use rights::channel::is_domain;
+use rights::verdict::check;
+use states::good::well_formed;
+ghost use mathlib.Core.Path.{_≡_};
+ghost use Prim.Native.Nat.{_-_, _≤_};
+ghost use lib.Dec.{eqb};
+ghost use lib.ListN.{length};
+ghost use Rattle.model.specs.Basics.{if_then_else_};
+ghost use Rattle.model.specs.Calls.{lent-verdict, node-verdict};
+ghost use Rattle.model.specs.declared.call.Ending.{Ending};
+
+// 9: "lent memory not as long as the map says"
+fn as_long(m: Map, memory: &[u8]) -> bool
+    ensures { λ r. ⌜ r ≡ eqb (length (now (memory .entry))) (m .length) ⌝ }
+{
+    memory.len() == (m.length as usize)
+}
+
+// 13: "state not well formed"
+pub fn node_verdict(m: Map, g: [[bool; MOST]; MOST], s: State, memory: &[u8]) -> Verdict
+    ensures { λ r. ⌜ r ≡ node-verdict m g s (now (memory .entry)) ⌝ }
+{
+    let verdict = acceptable(m, g);
+    match verdict {
+        Verdict::Refused(r) => Verdict::Refused(r),
+        Verdict::Accepted => {
+            if as_long(m, memory) {
+                check(well_formed(m.count, s), Refusal::Malformed)
+            } else {
+                Verdict::Refused(Refusal::Memory)
+            }
+        }
+    }
+}
+
+// 14: "domain not 1 to N"
+pub fn lent_verdict(m: Map, g: [[bool; MOST]; MOST], memory: &[u8], d: u8) -> Verdict
+    ensures { λ r. ⌜ r ≡ lent-verdict m g (now (memory .entry)) d ⌝ }
+{
+    let verdict = acceptable(m, g);
+    match verdict {
+        Verdict::Refused(r) => Verdict::Refused(r),
+        Verdict::Accepted => {
+            if as_long(m, memory) {
+                check(is_domain(m.count, d), Refusal::NoDomain)
+            } else {
+                Verdict::Refused(Refusal::Memory)
+            }
+        }
+    }
+}
+
+// "how many steps were not idle": those that are not left.
+pub fn counted(limit: u64, left: u64) -> u64
+    requires { ⌜ left ≤ limit ⌝ }
+    ensures { λ r. ⌜ r ≡ limit - left ⌝ }
+{
+    limit - left
+}
+
+// ""spent" if that equals the limit, else "idle"": nothing is left of the limit.
+pub fn ending(left: u64) -> Ending
+    ensures { λ r. ⌜ r ≡ (if eqb left 0 then Ending.Spent else Ending.Idle) ⌝ }
+{
+    if left == 0 {
+        return Ending::Spent;
+    }
+    Ending::Idle
+}
