@@ -1,5 +1,6 @@
 // The machine: start, step, tick, word-in, one event, a trace, a batch, and the view of a domain's data. No call asks its caller to have
 // looked first: each tests what it is given, in document 01's order, and refuses with the paper's number.
+mod count;
 mod happen;
 mod reader;
 mod run;
@@ -7,11 +8,11 @@ mod trace;
 mod turn;
 mod verdict;
 
+use crate::count::counted;
+use crate::count::ending;
 use crate::happen::happen;
 use crate::run::run;
 use crate::trace::play_on;
-use crate::verdict::counted;
-use crate::verdict::ending;
 use crate::verdict::lent_verdict;
 use crate::verdict::node_verdict;
 use model::MOST;

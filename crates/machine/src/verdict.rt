@@ -1,6 +1,5 @@
 // The tests that the calls make: the map and grid, then 9, 13, 14 "as far as each applies".
 use model::MOST;
-use model::call::Ending;
 use model::call::Verdict;
 use model::map::Map;
 use model::refusal::Refusal;
@@ -10,12 +9,9 @@ use rights::channel::is_domain;
 use rights::verdict::check;
 use states::good::well_formed;
 ghost use mathlib.Core.Path.{_≡_};
-ghost use Prim.Native.Nat.{_-_, _≤_};
 ghost use lib.Dec.{eqb};
 ghost use lib.ListN.{length};
-ghost use Rattle.model.specs.Basics.{if_then_else_};
 ghost use Rattle.model.specs.Calls.{lent-verdict, node-verdict};
-ghost use Rattle.model.specs.declared.call.Ending.{Ending};
 
 // 9: "lent memory not as long as the map says"
 fn as_long(m: Map, memory: &[u8]) -> bool
@@ -56,22 +52,4 @@ pub fn lent_verdict(m: Map, g: [[bool; MOST]; MOST], memory: &[u8], d: u8) -> Ve
             }
         }
     }
-}
-
-// "how many steps were not idle": those that are not left.
-pub fn counted(limit: u64, left: u64) -> u64
-    requires { ⌜ left ≤ limit ⌝ }
-    ensures { λ r. ⌜ r ≡ limit - left ⌝ }
-{
-    limit - left
-}
-
-// ""spent" if that equals the limit, else "idle"": nothing is left of the limit.
-pub fn ending(left: u64) -> Ending
-    ensures { λ r. ⌜ r ≡ (if eqb left 0 then Ending.Spent else Ending.Idle) ⌝ }
-{
-    if left == 0 {
-        return Ending::Spent;
-    }
-    Ending::Idle
 }
