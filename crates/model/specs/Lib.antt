@@ -8,6 +8,7 @@
 --     Instructions   "Instructions": what the table's words mean
 --     Events         "Events"
 --     Calls          the public calls: the tests that each makes, and what it returns and leaves
+--     Program        "The program": what it prints
 --     Whole          one name that opens all definitions
 --     TestLaws       for code that makes the definitions' tests one by one
 -- A file ..Edges has its section's definitions at both sides of an edge, by computation.
@@ -39,4 +40,5 @@ pub mod EventsEdges
 pub mod EventsLaws
 pub mod TraceLaws
 pub mod Calls
+pub mod Program
 pub mod Whole

@@ -1,14 +1,18 @@
 -- Laws of Events: reading a trace, without its rounds.
 --     rounds-enough                  more rounds give the same
 --     trace-empty, -whole, -broken   how reading goes on
+--     rest-end, -whole, -broken      the same, of the bytes that are left of a longer trace
+--     rest-takes                     an event takes a byte at least, and no more than there are
 -- Assumes nothing.
-use Prim.Native.Nat.{ℕ, zero, suc, _+_, _≤_}
-use mathlib.Core.Path.{_≡_, refl, ap, _∙_}
+use Prim.Native.Nat.{ℕ, zero, suc, _+_, _≤_, _<_}
+use mathlib.Core.Path.{_≡_, refl, sym, ap, _∙_}
 use mathlib.Core.List.{List, [], _∷_}
 use native.Mathlib.Omega.{arith}
 use lib.Dec.{leb, eqb}
-use lib.ListN.{length, getD, drop, length-drop}
-use Rattle.model.specs.BasicsLaws.{either}
+use lib.ListN.{length, getD, drop, length-drop, drop-of-length-le}
+use lib.Seq.{drop-cons, drop-drop}
+use borrow.Author.Tests.{leb-true}
+use Rattle.model.specs.BasicsLaws.{by-bool, either}
 use Rattle.model.specs.Events.{event-read, Trace, ended, follow, next, trace, trace-of}
 use Rattle.model.specs.declared.event.Event.{Event}
 use Rattle.model.specs.declared.event.EventRead.{EventRead}
@@ -65,3 +69,46 @@ pub trace-broken :
     → trace-of at (b ∷ s) ≡ ended (Close.Broken r at)
 unfolding trace
 trace-broken at b s r w = ap (λ x. next at x (λ i. trace (length s) (at + i) (drop i (b ∷ s)))) w
+
+-- an event takes a byte at least, and no more than there are
+abbrev Within : List ℕ → EventRead → Type 0
+Within s (EventRead.Whole e n) = (1 ≤ n) × (n ≤ length s)
+Within s (EventRead.Broken r) = Unit {0}
+
+read-within : (s : List ℕ) → 0 < length s → Within s (event-read s)
+unfolding event-read
+read-within s h =
+    let kind = getD s 0 0 in
+    by-bool (eqb kind 1) (λ e. rw e (omega arith, h))
+    (λ e. by-bool (eqb kind 2) (λ f. rw (e, f) (omega arith, h))
+    (λ f. by-bool (eqb kind 3)
+    (λ q. by-bool (leb 6 (length s)) (λ l. rw (e, f, q, l) (omega arith, leb-true 6 (length s) l)) (λ l. rw (e, f, q, l) tt))
+    (λ q. rw (e, f, q) tt)))
+
+whole-takes : (s : List ℕ) (e : Event) (n : ℕ) → 0 < length s → event-read s ≡ EventRead.Whole e n → (1 ≤ n) × (n ≤ length s)
+whole-takes s e n h w = rw w at (read-within s h)
+
+-- at bytes of a trace are read
+module _ (bytes : List ℕ) (at : ℕ) where
+  pub rest-end : length bytes ≤ at → trace-of at (drop at bytes) ≡ ended Close.Done
+  rest-end h = ap (trace-of at) (drop-of-length-le bytes h) ∙ trace-empty at
+
+  module _ (h : at < length bytes) where
+    pub rest-broken :
+        (r : Refusal) → event-read (drop at bytes) ≡ EventRead.Broken r → trace-of at (drop at bytes) ≡ ended (Close.Broken r at)
+    rest-broken r e =
+        ap (trace-of at) (drop-cons bytes at 0 h) ∙ trace-broken at _ _ r (ap event-read (sym (drop-cons bytes at 0 h)) ∙ e)
+
+    pub rest-whole :
+        (e : Event) (n : ℕ) → event-read (drop at bytes) ≡ EventRead.Whole e n
+        → trace-of at (drop at bytes) ≡ follow e (trace-of (at + n) (drop (at + n) bytes))
+    rest-whole e n w =
+        ap (trace-of at) (drop-cons bytes at 0 h)
+        ∙ trace-whole at _ _ e n (ap event-read (sym (drop-cons bytes at 0 h)) ∙ w)
+        ∙ ap (λ b. follow e (trace-of (at + n) (drop n b))) (sym (drop-cons bytes at 0 h))
+        ∙ ap (λ b. follow e (trace-of (at + n) b)) (drop-drop n at bytes)
+
+    pub rest-takes : (e : Event) (n : ℕ) → event-read (drop at bytes) ≡ EventRead.Whole e n → (1 ≤ n) × (at + n ≤ length bytes)
+    rest-takes e n w =
+        let long = length-drop at bytes in
+        let takes = whole-takes (drop at bytes) e n (omega arith) w in (takes .0, omega (arith, takes .1))

@@ -10,6 +10,7 @@
 --     Batches     a batch's number
 --     Traces      a broken record keeps the events before it
 --     Sheets      read after write, write after read, the length
+--     Texts       what the program prints: the paper's nine lines, and how long a text is
 --     Met         the premises can be met
 pub mod CaseL
 pub mod Edges
@@ -22,5 +23,6 @@ pub mod Fair
 pub mod Batches
 pub mod Traces
 pub mod Sheets
+pub mod Texts
 pub mod Trips
 pub mod Met
