@@ -2,6 +2,7 @@
 --     Suspect      the register byte that decides
 --     RowLaws      the rows of a run of kinds
 --     Told         how an instruction went: what it means for its context
+--     Home         the region that an access mostly lies in
 --     Loaded       what a load and a store say; AccessLaws
 --     WorkLaws     each effect
 --     Steps        steps one after the other, and a stretch of one domain among them; StepsLaws
@@ -9,6 +10,7 @@
 pub mod Suspect
 pub mod RowLaws
 pub mod Told
+pub mod Home
 pub mod Loaded
 pub mod AccessLaws
 pub mod WorkLaws

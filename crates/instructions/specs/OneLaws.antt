@@ -16,26 +16,20 @@ use Rattle.model.specs.Map.{inside, may, lowest}
 use Rattle.model.specs.MapLaws.{inside-from, inside-below}
 use Rattle.model.specs.Table.{Body, size, registers-of, Row, table, row-of, decoded}
 use Rattle.model.specs.States.{with-counter}
-use Rattle.model.specs.Instructions.{Deed, Plan, byte-r, work, checked, worked, decode, plan, peek, kept, carry}
+use Rattle.model.specs.Instructions.{Deed, Plan, byte-r, byte-s, work, checked, worked, decode, plan, peek, kept, carry}
 use Rattle.model.specs.declared.map.Access.{Access}
 use Rattle.model.specs.declared.map.Domain.{Domain}
 use Rattle.model.specs.declared.state.Reason.{Reason}
 use Rattle.model.specs.declared.state.Context.{Context}
 use Rattle.model.specs.declared.instruction.Decoded.{Decoded}
-use Rattle.instructions.specs.Suspect.{first-bad, suspect}
+use Rattle.instructions.specs.Home.{home-all}
+use Rattle.instructions.specs.Suspect.{first-named, second-named, if-named, first-bad, suspect}
 use Rattle.instructions.specs.Told.{held, seen, Tells, Works}
 use Rattle.instructions.specs.declared.went.Went.{Went}
 
 -- ---- the fetch: bytes that start in the code, or at its end
 
 module _ (own : Domain) where
-  pub fetch-all :
-      (a n : ℕ) → own .code .begin ≤ a → a + n ≤ own .code .end → lowest (may own Access.Fetch) a n ≡ none
-  unfolding lowest may
-  fetch-all a zero l h = refl
-  fetch-all a (suc n) l h =
-      rw (le-leb (own .code .begin) a l, lt-ltb a (own .code .end) (omega arith)) (fetch-all (a + 1) n (omega arith) (omega arith))
-
   pub fetch-past :
       (a n : ℕ) → own .code .begin ≤ a → a ≤ own .code .end → own .code .end < a + n
       → lowest (may own Access.Fetch) a n ≡ some (own .code .end)
@@ -128,7 +122,7 @@ module _ (own : Domain) (count : ℕ) (row : List Bool) (memory : List ℕ) (c :
             fetched
             ∙ rw (
               le-leb kind 19 h,
-              fetch-all own (c .counter + 1) (size (row-of kind .form)) (omega (arith, inside-from (own .code) (c .counter) i))
+              home-all own Access.Fetch (c .counter + 1) (size (row-of kind .form)) (omega (arith, inside-from (own .code) (c .counter) i))
                   (omega (arith, inside-below (own .code) (c .counter) i)),
             )
             (ap (λ t. carry (held own count row) memory (t memory (c .counter + 1) c on)) (body-five kind))
@@ -169,6 +163,17 @@ module _ (c : Fetched) where
   abbrev form : Body
   form = row-of (c .kind) .form
 
+  abbrev bytes : List ℕ
+  bytes = peek (c .memory) (c .counter + 1) 5
+
+  -- the bytes that name registers are tested one after the other
+  module _ {r : ℕ} (e : r ≡ if-named (first-named form) (byte-r bytes)) where
+    pub suspect-first : 7 < r → r ≡ suspect form bytes
+    suspect-first q = rw (← e, lt-leb r 7 q)
+
+    pub suspect-second : {s : ℕ} → s ≡ if-named (second-named form) (byte-s bytes) → r ≤ 7 → s ≡ suspect form bytes
+    suspect-second h q = rw (← e, le-leb r 7 q) h
+
   pub one-kind : 19 < c .kind → One (Went.Faults (Reason.Kind (c .kind))) (c .registers) (c .memory)
   one-kind h = (
     λ x b.
@@ -186,7 +191,7 @@ module _ (c : Fetched) where
       refl,
     )
 
-    module _ (p : d .length < c .own .code .end - c .counter) (r : ℕ) (f : r ≡ suspect form (peek (c .memory) (c .counter + 1) 5)) where
+    module _ (p : d .length < c .own .code .end - c .counter) (r : ℕ) (f : r ≡ suspect form bytes) where
       pub one-register : 7 < r → One (Went.Faults (Reason.Register r)) (c .registers) (c .memory)
       one-register q = (
         λ x b.

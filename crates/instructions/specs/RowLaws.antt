@@ -27,14 +27,14 @@ module _ {A : Type 0} {x : A} {k : ℕ} where
   unfolding row-of
   rows f from n all low high = run (map f table) from n _ all low high ∙ List·getD-map f table k _
 
--- a kind that is none of the first n
-abbrev pub Past : ℕ → ℕ → Type 0
-Past k zero = Unit {0}
-Past k (suc n) = Past k n × (k ≡ n → ⊥)
+-- P, and a kind that is none of the n from a on
+abbrev pub Past : Type 0 → ℕ → ℕ → ℕ → Type 0
+Past P k a zero = P
+Past P k a (suc n) = Past P k a n × (k ≡ a + n → ⊥)
 
-pub past : (k n : ℕ) → Past k n → n ≤ k
-past k zero p = omega arith
-past k (suc n) p = let below : n ≤ k = past k n (p .0) in omega (arith, p .1)
+pub past : {P : Type 0} (k a n : ℕ) → (P → a ≤ k) → Past P k a n → a + n ≤ k
+past k a zero l p = omega (arith, l p)
+past k a (suc n) l p = let below : a + n ≤ k = past k a n l (p .0) in omega (arith, p .1)
 
 -- n numbers from a on
 abbrev counted : ℕ → ℕ → List ℕ

@@ -7,6 +7,7 @@ use crate::register::becomes;
 use crate::went::Went;
 use model::map::Access;
 use model::map::Domain;
+use model::map::Region;
 use model::state::Reason;
 use rights::domain::may;
 ghost use mathlib.Core.Path.{_≡_};
@@ -15,6 +16,7 @@ ghost use Prim.Native.Nat.{_+_, _%_, _≤_, _<_, _^_};
 ghost use lib.ListN.{getD};
 ghost use Rattle.model.specs.Basics.{bytes, number};
 ghost use Rattle.model.specs.Map.{may, lowest};
+ghost use Rattle.instructions.specs.Home.{home, covers};
 ghost use Rattle.instructions.specs.Told.{lowest-of};
 ghost use Rattle.instructions.specs.Loaded.{Loads, Stores};
 
@@ -30,10 +32,34 @@ pub fn address(base: u32, offset: u8) -> u64
     (base as u64) + (offset as u64)
 }
 
+// The region that accesses of a sort mostly lie in.
+fn home(own: Domain, k: Access) -> Region
+    ensures { λ r. ⌜ r ≡ home own k ⌝ }
+{
+    let code = own.code;
+    let data = own.data;
+    match k {
+        Access::Read => data,
+        Access::Write => data,
+        Access::Fetch => code,
+    }
+}
+
+fn covers(r: Region, a: u64, n: u64) -> bool
+    requires { ⌜ (a < 2 ^ 33) × (n ≤ 4) ⌝ }
+    ensures { λ x. ⌜ x ≡ covers r a n ⌝ }
+{
+    ((r.begin as u64) <= a) & (a + n <= (r.end as u64))
+}
+
+// An access inside its home needs no search.
 fn first_denied(own: Domain, k: Access, a: u64, n: u64) -> Denied
     requires { ⌜ (a < 2 ^ 33) × (n ≤ 4) ⌝ }
     ensures { λ r. ⌜ lowest-of r ≡ lowest (may own k) a n ⌝ }
 {
+    if covers(home(own, k), a, n) {
+        return Denied::Nowhere;
+    }
     let mut at = a;
     let mut left = n;
     while 0 < left {

@@ -5,8 +5,8 @@ use model::instruction::Effect;
 ghost use mathlib.Core.Path.{_≡_};
 ghost use Prim.Native.Nat.{_≤_, _<_, _^_};
 ghost use Rattle.model.specs.Table.{size, row-of, decoded};
-ghost use Rattle.model.specs.Instructions.{peek};
-ghost use Rattle.instructions.specs.Suspect.{first-named, second-named, if-named, first-bad, suspect};
+ghost use Rattle.model.specs.Instructions.{byte-r, byte-s, peek};
+ghost use Rattle.instructions.specs.Suspect.{first-named, second-named, if-named};
 
 fn length_of(kind: u8) -> u32
     requires { ⌜ kind ≤ 19 ⌝ }
@@ -89,24 +89,20 @@ fn if_named(named: bool, r: u8) -> u8
     0
 }
 
-fn either(r: u8, s: u8) -> u8
-    ensures { λ x. ⌜ x ≡ first-bad r s ⌝ }
+// "registers above 7 in body order": a byte of the body where it names a register, and 0 where it does not. The tests on the kind are
+// joined and not matched: a second jump table would cost more.
+pub fn first_register(memory: &[u8], kind: u8, at: usize) -> u8
+    requires { ⌜ kind ≤ 19 ⌝ }
+    ensures { λ x. ⌜ x ≡ if-named (first-named (row-of kind .form)) (byte-r (peek (now (memory .entry)) at 5)) ⌝ }
 {
-    if r <= 7 {
-        return s;
-    }
-    r
+    let r = byte(memory, at);
+    if_named(first_named(kind), r)
 }
 
-// "registers above 7 in body order": the first register byte of the body that is above 7, and a number up to 7 where none is. The
-// tests on the kind are joined and not matched: a second jump table would cost more.
-pub fn suspect(memory: &[u8], kind: u8, at: usize) -> u8
+pub fn second_register(memory: &[u8], kind: u8, at: usize) -> u8
     requires { ⌜ (kind ≤ 19) × (at < 2 ^ 33) ⌝ }
-    ensures { λ r. ⌜ r ≡ suspect (row-of kind .form) (peek (now (memory .entry)) at 5) ⌝ }
+    ensures { λ x. ⌜ x ≡ if-named (second-named (row-of kind .form)) (byte-s (peek (now (memory .entry)) at 5)) ⌝ }
 {
-    let first = byte(memory, at);
-    let second = byte(memory, at + 1);
-    let r = if_named(first_named(kind), first);
-    let s = if_named(second_named(kind), second);
-    either(r, s)
+    let s = byte(memory, at + 1);
+    if_named(second_named(kind), s)
 }

@@ -1,20 +1,15 @@
 -- Laws of Playing: how a trace is gone through.
 --     plays-start, plays-end, plays-broken, plays-whole
---     whole-takes        an event takes a byte at least, and no more than there are
 -- Assumes nothing.
 use Prim.Native.Nat.{ℕ, suc, _+_, _≤_, _<_}
 use mathlib.Core.Path.{_≡_, sym, ap, _∙_}
 use mathlib.Core.List.{List}
 use native.Mathlib.Nat.{add-zero, zero-add}
 use native.Mathlib.Omega.{arith}
-use lib.Dec.{leb, eqb}
-use lib.ListN.{length, getD, drop, drop-of-length-le}
-use lib.Seq.{drop-cons, drop-drop}
-use borrow.Author.Tests.{leb-true}
-use Rattle.model.specs.BasicsLaws.{by-bool}
+use lib.ListN.{length, drop}
 use Rattle.model.specs.Map.{Grid}
-use Rattle.model.specs.Events.{Trace, event, run, event-read, follow, trace-of}
-use Rattle.model.specs.TraceLaws.{trace-empty, trace-whole, trace-broken}
+use Rattle.model.specs.Events.{Trace, event, run, event-read, trace-of}
+use Rattle.model.specs.TraceLaws.{rest-end, rest-broken, rest-whole}
 use Rattle.model.specs.Calls.{Left, left, played}
 use Rattle.model.specs.declared.map.Map.{Map}
 use Rattle.model.specs.declared.state.State.{State}
@@ -25,24 +20,6 @@ use Rattle.model.specs.declared.call.Verdict.{Verdict}
 use Rattle.model.specs.declared.call.Close.{Close}
 use Rattle.model.specs.declared.call.Played.{Played}
 use Rattle.machine.specs.Playing.{plays}
-
--- an event takes a byte at least, and no more than there are
-abbrev Within : List ℕ → EventRead → Type 0
-Within s (EventRead.Whole e n) = (1 ≤ n) × (n ≤ length s)
-Within s (EventRead.Broken r) = Unit {0}
-
-read-within : (s : List ℕ) → 0 < length s → Within s (event-read s)
-unfolding event-read
-read-within s h =
-    let kind = getD s 0 0 in
-    by-bool (eqb kind 1) (λ e. rw e (omega arith, h))
-    (λ e. by-bool (eqb kind 2) (λ f. rw (e, f) (omega arith, h))
-    (λ f. by-bool (eqb kind 3)
-    (λ q. by-bool (leb 6 (length s)) (λ l. rw (e, f, q, l) (omega arith, leb-true 6 (length s) l)) (λ l. rw (e, f, q, l) tt))
-    (λ q. rw (e, f, q) tt)))
-
-pub whole-takes : (s : List ℕ) (e : Event) (n : ℕ) → 0 < length s → event-read s ≡ EventRead.Whole e n → (1 ≤ n) × (n ≤ length s)
-whole-takes s e n h w = rw w at (read-within s h)
 
 module _ (m : Map) (g : Grid) (bytes : List ℕ) where
   abbrev over : Trace → ℕ → State → List ℕ → Left Played (List ℕ)
@@ -64,7 +41,7 @@ module _ (m : Map) (g : Grid) (bytes : List ℕ) where
         length bytes ≤ at → left (record { close = Close.Done; events = k; state = s }) memory ≡ plays m g bytes at k s memory
     unfolding plays run
     plays-end h =
-        sym (ap (λ t. over t k s memory) (ap (trace-of at) (drop-of-length-le bytes h) ∙ trace-empty at)
+        sym (ap (λ t. over t k s memory) (rest-end bytes at h)
         ∙ ap (λ n. left (record { close = Close.Done; events = n; state = s }) memory) (add-zero k))
 
     module _ (h : at < length bytes) where
@@ -73,8 +50,7 @@ module _ (m : Map) (g : Grid) (bytes : List ℕ) where
           → left (record { close = Close.Broken r at; events = k; state = s }) memory ≡ plays m g bytes at k s memory
       unfolding plays run
       plays-broken r e =
-          sym (ap (λ t. over t k s memory)
-          (ap (trace-of at) (drop-cons bytes at 0 h) ∙ trace-broken at _ _ r (ap event-read (sym (drop-cons bytes at 0 h)) ∙ e))
+          sym (ap (λ t. over t k s memory) (rest-broken bytes at h r e)
           ∙ ap (λ n. left (record { close = Close.Broken r at; events = n; state = s }) memory) (add-zero k))
 
       pub plays-whole :
@@ -85,12 +61,7 @@ module _ (m : Map) (g : Grid) (bytes : List ℕ) where
       plays-whole e n w =
           let o = event m g s memory e in
           let t = trace-of (at + n) (drop (at + n) bytes) in
-          let rest : trace-of at (drop at bytes) ≡ follow e t =
-          ap (trace-of at) (drop-cons bytes at 0 h)
-          ∙ trace-whole at _ _ e n (ap event-read (sym (drop-cons bytes at 0 h)) ∙ w)
-          ∙ ap (λ b. follow e (trace-of (at + n) (drop n b))) (sym (drop-cons bytes at 0 h))
-          ∙ ap (λ b. follow e (trace-of (at + n) b)) (drop-drop n at bytes) in
           let count : k + suc (length (t .events)) ≡ k + 1 + length (t .events) = omega arith in
           let r = run m g (o .state) (o .memory) (t .events) in
-          ap (λ x. over x k s memory) rest
+          ap (λ x. over x k s memory) (rest-whole bytes at h e n w)
           ∙ ap (λ j. left (record { close = t .close; events = j; state = r .state }) (r .memory)) count

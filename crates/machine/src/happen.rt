@@ -1,5 +1,4 @@
 // One event of a node that was tested.
-use crate::run::run;
 use model::MOST;
 use model::event::Event;
 use model::map::Map;
@@ -7,6 +6,7 @@ use model::state::State;
 use states::event::Happened;
 use states::event::tick;
 use states::event::word_in;
+use stepping::run::run;
 ghost use mathlib.Core.Path.{_≡_};
 ghost use Rattle.model.specs.SoundLaws.{Sound};
 ghost use Rattle.model.specs.Events.{gives, event};

@@ -3,15 +3,12 @@
 mod count;
 mod happen;
 mod reader;
-mod run;
 mod trace;
-mod turn;
 mod verdict;
 
 use crate::count::counted;
 use crate::count::ending;
 use crate::happen::happen;
-use crate::run::run;
 use crate::trace::play_on;
 use crate::verdict::lent_verdict;
 use crate::verdict::node_verdict;
@@ -30,6 +27,7 @@ use model::map::Map;
 use model::state::State;
 use rights::acceptable;
 use states::start::no_state;
+use stepping::run::run;
 ghost use mathlib.Core.Path.{_≡_};
 ghost use Rattle.model.specs.Events.{event-read};
 ghost use Rattle.model.specs.Calls.{left, lent-verdict, view, starter, stepper, player, batcher};

@@ -35,4 +35,4 @@ effect-of-spec =
     (λ c. rows effect 16 1 refl (omega arith) (omega arith))
     (λ c. rows effect 17 1 refl (omega arith) (omega arith))
     (λ c. rows effect 18 1 refl (omega arith) (omega arith))
-    (λ c. rows effect 19 1 refl (past (c .before .args .kind) 19 (c .match .rest)) (omega arith)))
+    (λ c. rows effect 19 1 refl (past (c .before .args .kind) 0 19 (λ _. omega arith) (c .match .rest)) (omega arith)))

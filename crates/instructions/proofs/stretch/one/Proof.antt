@@ -1,11 +1,15 @@
--- `instructions::stretch::one` meets its contract. Each exit is one of the plan's; the last is the effect, which `work` tells.
+-- `instructions::stretch::one` meets its contract. The kind byte is fetched, or not, or is above 19; `known` tells the rest.
 -- Assumes nothing.
-use mathlib.Core.Path.{sym, _∙_}
+use Prim.Native.Nat.{ℕ, _≤_}
+use mathlib.Core.Path.{_≡_, sym, _∙_}
+use mathlib.Core.Bool.{true}
 use native.Mathlib.Omega.{arith}
+use lib.ListN.{getD}
 use borrow.Author.Needs.{needs}
 use borrow.Author.Tests.{not-true, not-false}
-use Rattle.model.specs.MapLaws.{inside-below}
-use Rattle.instructions.specs.OneLaws.{Fetched, one-fetch, one-kind, one-body, one-register, one-works}
+use Rattle.model.specs.Map.{most, inside}
+use Rattle.instructions.specs.OneLaws.{Fetched, one-fetch, one-kind}
+use Rattle.instructions.specs.RowLaws.{past}
 use Rattle.instructions.proofs.stretch.one.Statement.{statement}
 use Rattle.instructions.proofs.stretch.one.Tie as tie
 
@@ -32,34 +36,12 @@ fetched c =
       there = sym (test .before .inside .ensures) ∙ not-false _ (test .if1 .left);
     }
 
-sub-room : tie.Need-sub-room
-sub-room c = let f = fetched (c .before .before .before) in omega (arith, inside-below (f .own .code) (f .counter) (f .there))
-
-returns-3 : tie.Need-returns-3
-returns-3 c =
-    let at-decode = c .before .before .before .before .before .before in
-    let at-before = at-decode .before in
-    one-body (fetched (at-before .before)) (omega arith) (at-decode .decode .result) (at-decode .decode .ensures) (c .if3 .taken)
-
-returns-4 : tie.Need-returns-4
-returns-4 c =
-    let at-suspect = c .before .before .before in
-    let at-decode = at-suspect .before .before .before .before in
-    let at-before = at-decode .before in
-    one-register (fetched (at-before .before)) (omega arith) (at-decode .decode .result) (at-decode .decode .ensures) (omega arith)
-    (at-suspect .suspect .result) (at-suspect .suspect .ensures) (omega arith)
-
-add-next-2 : tie.Need-add-next-2
-add-next-2 c = omega arith
-
-returns-5 : tie.Need-returns-5
-returns-5 c =
-    let at-work = c .before .before in
-    let at-suspect = at-work .before .before .before .before .before .before .before in
-    let at-decode = at-suspect .before .before .before .before in
-    let at-before = at-decode .before in
-    one-works (fetched (at-before .before)) (omega arith) (at-decode .decode .result) (at-decode .decode .ensures) (omega arith)
-    (at-suspect .suspect .result) (at-suspect .suspect .ensures) (at-work .work .result) _ _ (omega arith) (at-work .work .ensures)
+-- what `known` asks of the kind
+asked :
+    (c : tie.After-byte) (kind : ℕ) → kind ≡ c .byte .result → kind ≤ 19
+    → let f = fetched c in
+    (kind ≤ 19) × (kind ≡ getD (f .memory) (f .counter) 0) × (inside (f .own .code) (f .counter) ≡ true) × (f .count ≤ most)
+asked c kind e h = (h, e ∙ fetched c .read, fetched c .there, search needs)
 
 pub one-spec : {M : Type 1} → statement M
 one-spec =
@@ -68,19 +50,58 @@ one-spec =
     (λ c κs. search needs)
     returns
     (λ c κs. search needs)
+    (λ c κs. asked (c .before .before .before) 0 (omega arith) (omega arith))
+    (λ c κs. asked (c .before .before .before) 1 (omega arith) (omega arith))
+    (λ c κs. asked (c .before .before .before) 2 (omega arith) (omega arith))
+    (λ c κs. asked (c .before .before .before) 3 (omega arith) (omega arith))
+    (λ c κs. asked (c .before .before .before) 4 (omega arith) (omega arith))
+    (λ c κs. asked (c .before .before .before) 5 (omega arith) (omega arith))
+    (λ c κs. asked (c .before .before .before) 6 (omega arith) (omega arith))
+    (λ c κs. asked (c .before .before .before) 7 (omega arith) (omega arith))
+    (λ c κs. asked (c .before .before .before) 8 (omega arith) (omega arith))
+    (λ c κs. asked (c .before .before .before) 13 (omega arith) (omega arith))
+    (λ c κs. asked (c .before .before .before) 14 (omega arith) (omega arith))
+    (λ c κs. asked (c .before .before .before) 15 (omega arith) (omega arith))
+    (λ c κs. asked (c .before .before .before) 16 (omega arith) (omega arith))
+    (λ c κs. asked (c .before .before .before) 17 (omega arith) (omega arith))
+    (λ c κs. asked (c .before .before .before) 18 (omega arith) (omega arith))
+    (λ c κs. asked (c .before .before .before) 19 (omega arith) (omega arith))
+    (λ c κs. asked (c .before .before .before .before) _ (omega arith) (omega arith))
     (λ c. search needs)
-    (λ c. one-kind (fetched (c .before)) (omega arith))
-    (λ c κs. search needs)
-    sub-room
     (λ c. search needs)
     (λ c. search needs)
-    (λ c κs. search needs)
     (λ c. search needs)
-    returns-3
     (λ c. search needs)
-    returns-4
     (λ c. search needs)
-    add-next-2
-    (λ c κs. search needs)
     (λ c. search needs)
-    returns-5)
+    (λ c. search needs)
+    (λ c. search needs)
+    (λ c. search needs)
+    (λ c. search needs)
+    (λ c. search needs)
+    (λ c. search needs)
+    (λ c. search needs)
+    (λ c. search needs)
+    (λ c. search needs)
+    (λ c. search needs)
+    (λ c. search needs)
+    (λ c. search needs)
+    (λ c. search needs)
+    (λ c. search needs)
+    (λ c. search needs)
+    (λ c. search needs)
+    (λ c. search needs)
+    (λ c. search needs)
+    (λ c. search needs)
+    (λ c. search needs)
+    (λ c. search needs)
+    (λ c. search needs)
+    (λ c. search needs)
+    (λ c. search needs)
+    (λ c. search needs)
+    (λ c. search needs)
+    (λ c. search needs)
+    (λ c. search needs)
+    (λ c. let k = c .before .before .byte .result in
+    one-kind (fetched (c .before .before))
+    (past k 13 7 (λ p. let low : 9 ≤ k = past k 0 9 (λ _. omega arith) p in omega (arith, low, c .if2 .left)) (c .before .match .rest))))

@@ -5,12 +5,13 @@ use Prim.Native.Nat.{ℕ, _+_, _-_, _≤_, _<_}
 use mathlib.Core.Path.{_≡_, sym, ap, _∙_, subst}
 use mathlib.Core.List.{List}
 use native.Mathlib.Omega.{arith}
-use lib.ListN.{length, take, drop, length-drop}
+use lib.ListN.{length, take, drop}
 use borrow.Rule.Slice.PartAt.{part-to-end}
 use borrow.Author.Needs.{needs}
 use Rattle.model.specs.Map.{Grid}
 use Rattle.model.specs.SoundLaws.{Sound}
 use Rattle.model.specs.Events.{Outcome, gives, event, event-read}
+use Rattle.model.specs.TraceLaws.{rest-takes}
 use Rattle.model.specs.Calls.{left}
 use Rattle.model.specs.declared.map.Map.{Map}
 use Rattle.model.specs.declared.state.State.{State}
@@ -21,7 +22,7 @@ use Rattle.model.specs.declared.refusal.Refusal.{Refusal}
 use Rattle.model.specs.declared.call.Close.{Close}
 use Rattle.promises.specs.Kept.{each-keeps}
 use Rattle.machine.specs.Playing.{closed, plays}
-use Rattle.machine.specs.PlayingLaws.{whole-takes, plays-end, plays-broken, plays-whole}
+use Rattle.machine.specs.PlayingLaws.{plays-end, plays-broken, plays-whole}
 use Rattle.machine.proofs.trace.play_on.Statement.{statement}
 use Rattle.machine.proofs.trace.play_on.Tie as tie
 
@@ -42,9 +43,7 @@ module _ (bytes : List ℕ) (at : ℕ) (r : EventRead) (q : r ≡ event-read (ta
   -- an event: how many bytes it takes, and what it makes of the node
   module _ (e : Event) (n : ℕ) (w : r ≡ EventRead.Whole e n) where
     goes : (1 ≤ n) × (at + n ≤ length bytes)
-    goes =
-        let long = length-drop at bytes in
-        let takes = whole-takes (drop at bytes) e n (omega arith) (front ∙ w) in (takes .0, omega (arith, takes .1))
+    goes = rest-takes bytes at h e n (front ∙ w)
 
     turn :
         (m : Map) (g : Grid) (k : ℕ) (s : State) (memory : List ℕ) (a : Answer) (t : State) (memory′ : List ℕ)

@@ -1,14 +1,16 @@
 // Steps, one after the other: the loop that owns the state. Inside it the state crosses no call; what the active domain needs is in
 // locals while a stretch of its instructions runs, and is written back where the stretch ends.
 use crate::turn::loaded;
-use crate::turn::replied;
 use crate::turn::settle;
+use crate::turn::taken;
+use crate::turn::with_status;
 use instructions::stretch::stretch;
 use instructions::went::Went;
 use model::MOST;
 use model::event::Answer;
 use model::map::Map;
 use model::state::State;
+use model::state::Status;
 use states::receive::received;
 use states::status::is_ready;
 use states::switch::after;
@@ -36,7 +38,8 @@ fn at_first(active: u8) -> u8
     1
 }
 
-// Domain d is tried; if it is not ready the next one is, as long as `tries` lasts, and with none the node is idle.
+// Domain d is tried; if it is not ready the next one is, as long as `tries` lasts, and with none the node is idle. Each ending stores
+// the context once, and the frequent ones by themselves: what several share is copied byte by byte, for the sake of a fault's reason.
 pub fn run(m: Map, g: [[bool; MOST]; MOST], s: State, memory: &mut [u8], limit: u64) -> Done
     requires { ⌜ Sound (m .count) s ⌝ }
     ensures { λ r. ⌜ going (r .left) (r .answer) (r .state) (now (memory .exit))
@@ -70,15 +73,35 @@ pub fn run(m: Map, g: [[bool; MOST]; MOST], s: State, memory: &mut [u8], limit: 
         let ran = stretch(own, m.count, row, c.counter, &mut registers, memory, left);
         left = ran.left;
         let went = ran.went;
-        let come = loaded(c, registers, ran.counter);
-        t.contexts[place] = come;
         let Went::Sends(to, word, next) = went else {
-            let done = settle(m.count, d, come, went);
-            let context = done.context;
-            t.contexts[place] = context;
-            answer = done.answer;
-            d = done.next;
-            tries = done.tries;
+            let Went::Yields(next) = went else {
+                let come = loaded(c, registers, ran.counter);
+                let Went::Receives(r, x, next) = went else {
+                    let done = settle(m.count, d, come, went);
+                    let context = done.context;
+                    t.contexts[place] = context;
+                    answer = done.answer;
+                    d = done.next;
+                    tries = done.tries;
+                    continue;
+                };
+                let held = c.mailbox;
+                if held.full {
+                    t.contexts[place] = taken(come, r, x, next);
+                    answer = Answer::Ran(d);
+                    tries = 1;
+                    continue;
+                }
+                t.contexts[place] = with_status(come, Status::Waiting);
+                answer = Answer::Waits(d);
+                d = after(m.count, d);
+                tries = m.count;
+                continue;
+            };
+            t.contexts[place] = loaded(c, registers, next);
+            answer = Answer::Ran(d);
+            d = after(m.count, d);
+            tries = m.count;
             continue;
         };
         answer = Answer::Ran(d);
@@ -87,10 +110,12 @@ pub fn run(m: Map, g: [[bool; MOST]; MOST], s: State, memory: &mut [u8], limit: 
         let before = t.contexts[receiver];
         let held = before.mailbox;
         if held.full {
-            t.contexts[place] = replied(come, next, 0);
+            registers[0] = 0;
+            t.contexts[place] = loaded(c, registers, next);
             continue;
         }
-        t.contexts[place] = replied(come, next, 1);
+        registers[0] = 1;
+        t.contexts[place] = loaded(c, registers, next);
         let other = t.contexts[receiver];
         t.contexts[receiver] = received(other, word, d);
     }

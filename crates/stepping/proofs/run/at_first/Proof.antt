@@ -1,8 +1,8 @@
--- `machine::run::at_first` meets its contract. The test falls as the definition's.
+-- `stepping::run::at_first` meets its contract. The test falls as the definition's.
 -- Assumes nothing.
 use borrow.Author.Tests.{eq-eqb, ne-eqb}
-use Rattle.machine.proofs.run.at_first.Statement.{statement}
-use Rattle.machine.proofs.run.at_first.Tie as tie
+use Rattle.stepping.proofs.run.at_first.Statement.{statement}
+use Rattle.stepping.proofs.run.at_first.Tie as tie
 
 pub at-first-spec : {M : Type 1} → statement M
 at-first-spec =

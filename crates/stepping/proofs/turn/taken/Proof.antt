@@ -1,8 +1,8 @@
--- `machine::turn::taken` meets its contract. The two registers are set one after the other.
+-- `stepping::turn::taken` meets its contract. The two registers are set one after the other.
 -- Assumes nothing.
 use borrow.Author.Needs.{needs}
-use Rattle.machine.proofs.turn.taken.Statement.{statement}
-use Rattle.machine.proofs.turn.taken.Tie as tie
+use Rattle.stepping.proofs.turn.taken.Statement.{statement}
+use Rattle.stepping.proofs.turn.taken.Tie as tie
 
 returns : tie.Need-returns
 returns c = rw (c .set-register2 .ensures, c .before .before .before .set-register .ensures)

@@ -1,9 +1,9 @@
--- `machine::turn::settle` meets its contract. Each arm is the definition's at its case; a receive's goes by the box.
+-- `stepping::turn::settle` meets its contract. Each arm is the definition's at its case; a receive's goes by the box.
 -- Assumes nothing.
 use mathlib.Core.Path.{_∙_}
 use borrow.Author.Needs.{needs}
-use Rattle.machine.proofs.turn.settle.Statement.{statement}
-use Rattle.machine.proofs.turn.settle.Tie as tie
+use Rattle.stepping.proofs.turn.settle.Statement.{statement}
+use Rattle.stepping.proofs.turn.settle.Tie as tie
 
 returns : tie.Need-returns
 returns c =

@@ -6,29 +6,31 @@ use mathlib.Core.Bool.{Bool, true, false}
 use mathlib.Core.List.{List, []}
 use native.Mathlib.Omega.{arith}
 use lib.Dec.{eqb}
-use lib.ListN.{length, getD}
+use lib.ListN.{length, getD, set}
+use lib.Seq.{set-set}
 use borrow.Author.Tests.{eqb-true, eqb-false}
 use Rattle.model.specs.Basics.{if_then_else_}
 use Rattle.model.specs.BasicsLaws.{by-bool, and-left}
 use Rattle.model.specs.Map.{most, Grid, is-domain, domain}
 use Rattle.model.specs.MapLaws.{in-range}
-use Rattle.model.specs.States.{full, set-register, with-counter, received, context, put, ready, after, with-active}
-use Rattle.model.specs.StatesLaws.{put-long}
+use Rattle.model.specs.States.{full, with-counter, with-status, received, context, put, ready, after, with-active}
+use Rattle.model.specs.StatesLaws.{each-put, put-long}
 use Rattle.model.specs.SoundLaws.{Sound}
 use Rattle.model.specs.SwitchLaws.{after-some, after-within}
-use Rattle.model.specs.Instructions.{Deed}
+use Rattle.model.specs.Instructions.{Deed, take-into}
 use Rattle.model.specs.declared.map.Map.{Map}
+use Rattle.model.specs.declared.state.Status.{Status}
 use Rattle.model.specs.declared.state.Context.{Context}
 use Rattle.model.specs.declared.state.State.{State}
 use Rattle.model.specs.declared.event.Answer.{Answer}
 use Rattle.instructions.specs.Told.{loaded, deed}
 use Rattle.instructions.specs.Steps.{going, steps, Granted, Stretches}
-use Rattle.machine.specs.Turn.{seek, found, next-tried, tries, settlement}
-use Rattle.machine.specs.TurnLaws.{seek-here}
-use Rattle.machine.specs.RunLaws.{Lone, run-idle, run-past, run-spent, run-settled, run-full, run-taken}
+use Rattle.stepping.specs.Turn.{seek, found, left-with, next-tried, tries, settlement}
+use Rattle.stepping.specs.TurnLaws.{seek-here}
+use Rattle.stepping.specs.RunLaws.{Lone, run-idle, run-past, run-spent, run-settled, run-full, run-taken}
 use Rattle.instructions.specs.declared.went.Went.{Went}
 use Rattle.instructions.specs.declared.went.Ran.{Ran}
-use Rattle.machine.specs.declared.turn.Settled.{Settled}
+use Rattle.stepping.specs.declared.turn.Settled.{Settled}
 
 tries-few : (count : ℕ) (x : Deed) → 1 ≤ count → tries count x ≤ count
 tries-few count (Deed.runs c) h = h
@@ -121,7 +123,7 @@ module _ (m : Map) (g : Grid) (s : State) (memory₀ : List ℕ) (limit : ℕ) w
         pub turning-spent : left ≡ 0 → going 0 answer (with-active t d) memory ≡ steps m g s memory₀ Answer.Idle limit
         turning-spent z = sym (run-spent m g t d memory answer n busy e) ∙ (rw z at (T .rest))
 
-  -- a turn in which domain d has run a stretch and has come to registers and a counter
+  -- a turn in which domain d has run a stretch
   pub record Ended : Type 0 where
     pub memory : List ℕ
     pub state : State
@@ -139,29 +141,34 @@ module _ (m : Map) (g : Grid) (s : State) (memory₀ : List ℕ) (limit : ℕ) w
     pub stretch :
         Stretches (domain m d) (m .count) (getD g (d - 1) []) (context state d .registers) (context state d .counter) memory left ran
         registers′ memory′
-    pub come : Context
-    pub come-to : come ≡ loaded (context state d) registers′ (ran .counter)
 
   module _ (z : Ended) where
     abbrev T : Turning (z .memory) (z .state) (z .left) (z .answer) (z .d) (z .n)
     T = z .turning
 
+    abbrev come : Context
+    come = loaded (context (z .state) (z .d)) (z .registers′) (z .ran .counter)
+
     abbrev put-back : State
-    put-back = put (z .state) (z .d) (z .come)
+    put-back = put (z .state) (z .d) come
 
     there : z .d ≤ length (z .state .contexts)
     there = omega (arith, T .within, T .counted, T .long)
 
-    long : (c : Context) → length (put put-back (z .d) c .contexts) ≡ most
-    long c = put-long put-back (z .d) c ∙ put-long (z .state) (z .d) (z .come) ∙ T .long
+    -- the context that is put back is the last one alone
+    over : (c : Context) → set (put-back .contexts) (z .d - 1) c ≡ set (z .state .contexts) (z .d - 1) c
+    over c = set-set (z .state .contexts) (z .d - 1) come c
+
+    long : (c : Context) → length (put (z .state) (z .d) c .contexts) ≡ most
+    long c = put-long (z .state) (z .d) c ∙ T .long
 
     pub turning-settled :
         Lone (z .ran .went) → (x : Settled)
-        → x ≡ settlement (m .count) (z .d) (z .come) (deed (z .come) (z .come .registers) (z .ran .went))
-        → Turning (z .memory′) (put put-back (z .d) (x .context)) (z .ran .left) (x .answer) (x .next) (x .tries)
+        → x ≡ settlement (m .count) (z .d) come (deed come (come .registers) (z .ran .went))
+        → Turning (z .memory′) (put (z .state) (z .d) (x .context)) (z .ran .left) (x .answer) (x .next) (x .tries)
     turning-settled a x q =
         let count-some : 1 ≤ m .count = omega (arith, T .few, z .busy) in
-        let u = deed (z .come) (z .come .registers) (z .ran .went) in
+        let u = deed come (come .registers) (z .ran .went) in
         rw q
         record {
           long = long _;
@@ -170,11 +177,33 @@ module _ (m : Map) (g : Grid) (s : State) (memory₀ : List ℕ) (limit : ℕ) w
           within = next-within (m .count) (z .d) u count-some (T .within);
           some = λ _. next-some (m .count) (z .d) u (T .some (z .busy));
           rest =
-              rw (z .come-to)
+              rw (← over (left-with come u))
               (sym (run-settled m g (z .state) (z .d) (z .memory) (z .answer) (z .n) (z .busy) (z .ready-yet) (T .some (z .busy)) there
               (z .left) (z .more) (z .ran) (z .registers′) (z .memory′) (z .stretch) a)
               ∙ T .rest);
         }
+
+    pub turning-yields :
+        (n : ℕ) → z .ran .went ≡ Went.Yields n → (c : Context) → c ≡ loaded (context (z .state) (z .d)) (z .registers′) n
+        → (k : ℕ) → k ≡ after (m .count) (z .d)
+        → Turning (z .memory′) (put (z .state) (z .d) c) (z .ran .left) (Answer.Ran (z .d)) k (m .count)
+    turning-yields n i c v k f =
+        turning-settled (rw i tt) (record { context = c; answer = Answer.Ran (z .d); next = k; tries = m .count }) (rw (i, v, f))
+
+    -- a receive, from a box that is full or not
+    module _ (r x n : ℕ) (i : z .ran .went ≡ Went.Receives r x n) (c : Context) where
+      pub turning-takes :
+          full (context (z .state) (z .d) .mailbox) ≡ true → c ≡ take-into come (with-counter come n) r x
+          → Turning (z .memory′) (put (z .state) (z .d) c) (z .ran .left) (Answer.Ran (z .d)) (z .d) 1
+      turning-takes e v =
+          turning-settled (rw i tt) (record { context = c; answer = Answer.Ran (z .d); next = z .d; tries = 1 }) (rw (i, e, v))
+
+      pub turning-waits :
+          full (context (z .state) (z .d) .mailbox) ≡ false → c ≡ with-status come Status.Waiting
+          → (k : ℕ) → k ≡ after (m .count) (z .d)
+          → Turning (z .memory′) (put (z .state) (z .d) c) (z .ran .left) (Answer.Waits (z .d)) k (m .count)
+      turning-waits e v k f =
+          turning-settled (rw i tt) (record { context = c; answer = Answer.Waits (z .d); next = k; tries = m .count }) (rw (i, e, v, f))
 
     module _ (to w k : ℕ) (i : z .ran .went ≡ Went.Sends to w k) where
       -- the domain is tried again, in a state with another context
@@ -193,34 +222,39 @@ module _ (m : Map) (g : Grid) (s : State) (memory₀ : List ℕ) (limit : ℕ) w
             rest = e;
           }
 
-      abbrev come-to : Context
-      come-to = loaded (context (z .state) (z .d)) (z .registers′) (z .ran .counter)
-
-      receiver-there : (1 ≤ to) × (to ≤ length (put (z .state) (z .d) come-to .contexts))
+      receiver-there : (1 ≤ to) × (to ≤ length (put-back .contexts))
       receiver-there =
           let r =
           turning-receiver (z .memory) (z .state) (z .left) (z .answer) (z .d) (z .n) T (getD g (z .d - 1) []) (z .ran .went) to w k i
           (z .stretch .1) in
-          (r .0, rw (put-long (z .state) (z .d) come-to) (omega (arith, r .1, T .long)))
+          (r .0, rw (put-long (z .state) (z .d) come) (omega (arith, r .1, T .long)))
+
+      -- the sender's own box is as it was
+      box-there : (v : Bool) → full (context (z .state) to .mailbox) ≡ v → full (context put-back to .mailbox) ≡ v
+      box-there v q =
+          each-put (λ c. full (c .mailbox) ≡ v) (z .state) (z .d) to come (T .some (z .busy)) there (receiver-there .0)
+          (λ f. rw f at q) (λ _. q)
 
       pub turning-full :
-          full (context put-back to .mailbox) ≡ true → (u : Context) → u ≡ set-register (with-counter (z .come) k) 0 0
-          → Turning (z .memory′) (put put-back (z .d) u) (z .ran .left) (Answer.Ran (z .d)) (z .d) 1
+          full (context (z .state) to .mailbox) ≡ true
+          → (u : Context) → u ≡ loaded (context (z .state) (z .d)) (set (z .registers′) 0 0) k
+          → Turning (z .memory′) (put (z .state) (z .d) u) (z .ran .left) (Answer.Ran (z .d)) (z .d) 1
       turning-full q u v =
-          again (put put-back (z .d) u) (long u)
-          (rw (v, z .come-to)
+          again (put (z .state) (z .d) u) (long u)
+          (rw (← over u, v)
           (sym (run-full m g (z .state) (z .d) (z .memory) (z .answer) (z .n) (z .busy) (z .ready-yet) (T .some (z .busy)) there
-          (z .left) (z .more) (z .ran) (z .registers′) (z .memory′) (z .stretch) to w k i (rw (z .come-to) at q))
+          (z .left) (z .more) (z .ran) (z .registers′) (z .memory′) (z .stretch) to w k i (box-there true q))
           ∙ T .rest))
 
       pub turning-taken :
-          full (context put-back to .mailbox) ≡ false → (u : Context) → u ≡ set-register (with-counter (z .come) k) 0 1
-          → (x : Context) → x ≡ received (context (put put-back (z .d) u) to) w (z .d)
-          → Turning (z .memory′) (put (put put-back (z .d) u) to x) (z .ran .left) (Answer.Ran (z .d)) (z .d) 1
+          full (context (z .state) to .mailbox) ≡ false
+          → (u : Context) → u ≡ loaded (context (z .state) (z .d)) (set (z .registers′) 0 1) k
+          → (x : Context) → x ≡ received (context (put (z .state) (z .d) u) to) w (z .d)
+          → Turning (z .memory′) (put (put (z .state) (z .d) u) to x) (z .ran .left) (Answer.Ran (z .d)) (z .d) 1
       turning-taken q u v x y =
-          again (put (put put-back (z .d) u) to x) (put-long (put put-back (z .d) u) to x ∙ long u)
-          (rw (y, v, z .come-to)
+          again (put (put (z .state) (z .d) u) to x) (put-long (put (z .state) (z .d) u) to x ∙ long u)
+          (rw (y, ← over u, v)
           (sym (run-taken m g (z .state) (z .d) (z .memory) (z .answer) (z .n) (z .busy) (z .ready-yet) (T .some (z .busy)) there
           (z .left) (z .more) (z .ran) (z .registers′) (z .memory′) (z .stretch) to w k i (receiver-there .0) (receiver-there .1)
-          (rw (z .come-to) at q))
+          (box-there false q))
           ∙ T .rest))

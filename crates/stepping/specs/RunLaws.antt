@@ -24,8 +24,8 @@ use Rattle.model.specs.declared.event.Answer.{Answer}
 use Rattle.instructions.specs.Told.{loaded, deed}
 use Rattle.instructions.specs.Steps.{Going, going, steps, onward, Stretches}
 use Rattle.instructions.specs.StepsLaws.{steps-acts}
-use Rattle.machine.specs.Turn.{seek, found, left-with, answers, next-tried, tries}
-use Rattle.machine.specs.TurnLaws.{seek-here, seek-past, Alone, Goes, settles, sent-full, sent-taken}
+use Rattle.stepping.specs.Turn.{seek, found, left-with, answers, next-tried, tries}
+use Rattle.stepping.specs.TurnLaws.{seek-here, seek-past, Alone, Goes, settles, sent-full, sent-taken}
 use Rattle.instructions.specs.declared.went.Went.{Went}
 use Rattle.instructions.specs.declared.went.Ran.{Ran}
 

@@ -7,11 +7,11 @@ use model::state::Mailbox;
 use model::state::Status;
 use states::switch::after;
 ghost use mathlib.Core.Path.{_≡_};
-ghost use Rattle.model.specs.States.{set-register, with-counter, with-status, after};
+ghost use Rattle.model.specs.States.{with-counter, with-status, after};
 ghost use Rattle.model.specs.Instructions.{take-into};
 ghost use Rattle.instructions.specs.Told.{loaded, deed};
 ghost use Rattle.model.specs.declared.event.Answer.{Answer};
-ghost use Rattle.machine.specs.Turn.{settlement};
+ghost use Rattle.stepping.specs.Turn.{settlement};
 
 // The context, the answer, the domain that is tried next and how many are.
 pub struct Settled {
@@ -35,17 +35,7 @@ pub fn loaded(c: Context, registers: [u32; 8], counter: u32) -> Context
     }
 }
 
-// "R0 becomes 1 and the box is filled, or R0 becomes 0 if it was full"
-pub fn replied(c: Context, counter: u32, r0: u32) -> Context
-    ensures { λ r. ⌜ r ≡ set-register (with-counter c counter) 0 r0 ⌝ }
-{
-    let mut d = c;
-    d.registers[0] = r0;
-    d.counter = counter;
-    d
-}
-
-fn with_status(c: Context, status: Status) -> Context
+pub fn with_status(c: Context, status: Status) -> Context
     ensures { λ r. ⌜ r ≡ with-status c status ⌝ }
 {
     let registers = c.registers;
@@ -59,7 +49,7 @@ fn with_status(c: Context, status: Status) -> Context
 }
 
 // "receive word into r, then sender into s; the box becomes empty"
-fn taken(c: Context, r: u8, s: u8, counter: u32) -> Context
+pub fn taken(c: Context, r: u8, s: u8, counter: u32) -> Context
     ensures { λ x. ⌜ x ≡ take-into c (with-counter c counter) r s ⌝ }
 {
     let held = c.mailbox;

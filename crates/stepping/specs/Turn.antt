@@ -11,7 +11,7 @@ use Rattle.model.specs.declared.state.Status.{Status}
 use Rattle.model.specs.declared.state.Context.{Context}
 use Rattle.model.specs.declared.state.State.{State}
 use Rattle.model.specs.declared.event.Answer.{Answer}
-use Rattle.machine.specs.declared.turn.Settled.{Settled}
+use Rattle.stepping.specs.declared.turn.Settled.{Settled}
 
 -- the first ready one of n domains, d the first of them; 0 where there is none. Who is active does not matter
 unfoldable pub seek : ℕ → List Context → ℕ → ℕ → ℕ

@@ -16,7 +16,7 @@ use Rattle.model.specs.Events.{gives, sent, perform}
 use Rattle.model.specs.declared.state.Context.{Context}
 use Rattle.model.specs.declared.state.State.{State}
 use Rattle.model.specs.declared.event.Answer.{Answer}
-use Rattle.machine.specs.Turn.{seek, found, left-with, answers, next-tried, tries}
+use Rattle.stepping.specs.Turn.{seek, found, left-with, answers, next-tried, tries}
 
 module _ (count : ℕ) (s : State) where
   pub seek-here : (n d : ℕ) → 0 < n → ready s d ≡ true → seek count (s .contexts) n d ≡ d
