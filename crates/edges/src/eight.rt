@@ -1,0 +1,60 @@
+// A map of eight domains: each has four bytes of code, from 32 on, and no data.
+use crate::put::put;
+
+fn put_first_four(sheet: &mut [u8]) {
+    put(
+        sheet,
+        14,
+        b"\x03\x20\x00\x00\x00\x24\x00\x00\x00\x00\x00\x00\x00\x00\x00\x00\x00\x20",
+    );
+    put(
+        sheet,
+        35,
+        b"\x03\x24\x00\x00\x00\x28\x00\x00\x00\x00\x00\x00\x00\x00\x00\x00\x00\x24",
+    );
+    put(
+        sheet,
+        56,
+        b"\x03\x28\x00\x00\x00\x2c\x00\x00\x00\x00\x00\x00\x00\x00\x00\x00\x00\x28",
+    );
+    put(
+        sheet,
+        77,
+        b"\x03\x2c\x00\x00\x00\x30\x00\x00\x00\x00\x00\x00\x00\x00\x00\x00\x00\x2c",
+    );
+}
+
+fn put_last_four(sheet: &mut [u8]) {
+    put(
+        sheet,
+        98,
+        b"\x03\x30\x00\x00\x00\x34\x00\x00\x00\x00\x00\x00\x00\x00\x00\x00\x00\x30",
+    );
+    put(
+        sheet,
+        119,
+        b"\x03\x34\x00\x00\x00\x38\x00\x00\x00\x00\x00\x00\x00\x00\x00\x00\x00\x34",
+    );
+    put(
+        sheet,
+        140,
+        b"\x03\x38\x00\x00\x00\x3c\x00\x00\x00\x00\x00\x00\x00\x00\x00\x00\x00\x38",
+    );
+    put(
+        sheet,
+        161,
+        b"\x03\x3c\x00\x00\x00\x40\x00\x00\x00\x00\x00\x00\x00\x00\x00\x00\x00\x3c",
+    );
+}
+
+// The records before the channels, 182 bytes, and kind 5. The buffer is zero.
+pub fn put_eight(sheet: &mut [u8]) {
+    put(
+        sheet,
+        0,
+        b"\x01\x00\x01\x00\x00\x02\x00\x00\x00\x00\x20\x00\x00\x00",
+    );
+    put_first_four(sheet);
+    put_last_four(sheet);
+    put(sheet, 182, b"\x05");
+}
