@@ -1,0 +1,21 @@
+-- `export::map::lay_domain` meets its contract. The domain's words are laid.
+-- Assumes nothing.
+use borrow.Author.Needs.{needs}
+use Rattle.export.proofs.map.lay_domain.Statement.{statement}
+use Rattle.export.proofs.map.lay_domain.Tie as tie
+
+returns : tie.Need-returns
+returns c =
+    let at-domain-words = c .before .before .before in
+    rw (c .lay .ensures, at-domain-words .domain-words .ensures)
+
+pub lay-domain-spec : {M : Type 1} → statement M
+lay-domain-spec =
+    tie.close
+    (tie.spec
+    (λ c κs. search needs)
+    (λ c. search needs)
+    (λ c. search needs)
+    (λ c. search needs)
+    (λ c κs. search needs)
+    returns)
