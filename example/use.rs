@@ -13,7 +13,7 @@ extern "C" {
     ) -> usize;
 }
 
-/// The text, and the memory as the trace leaves it. A buffer of 80 bytes an event and 80 more holds every text.
+/// The text, and the memory as the trace leaves it. A buffer of 80 bytes for each byte of the trace and 80 more holds every text.
 fn transcript(sheet: &[u8], memory: &mut [u8], trace: &[u8]) -> String {
     let mut text = vec![0; 80 * trace.len() + 80];
     // Each part is lent with its own length, and no two overlap.

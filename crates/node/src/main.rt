@@ -6,7 +6,7 @@ ghost use Rattle.io.specs.Counts.{Counts};
 const SHEET: usize = 352;
 
 const LONG: usize = 16384;
-// 80 bytes an event and 80 more: no text is longer, by `transcript-length` in crates/promises/specs/Texts.antt.
+// 80 bytes for each byte of the trace and 80 more: no text is longer, by `transcript-length` in crates/promises/specs/Texts.antt.
 const TEXT: usize = 1310800;
 
 // Fills the buffer from the file's front and answers how many bytes came. "a missing file is empty", and so is one that cannot be read.

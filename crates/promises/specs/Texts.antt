@@ -1,6 +1,6 @@
 -- Document 01, "The program": what it prints.
 --     L-prints             Case L's nine lines
---     transcript-length    a text has at most 80 bytes an event and 80 more, so a buffer of that length holds all of it
+--     transcript-length    a text has at most 80 bytes for each byte of its trace and 80 more: a buffer of that length holds it
 -- Assumes nothing.
 use Prim.Native.Nat.{ℕ, zero, suc, _+_, _*_, _/_, _%_, _≤_}
 use mathlib.Core.Path.{_≡_, refl, sym, ap, _∙_}

@@ -93,7 +93,8 @@ fn leaves(count: u8, d: u8, c: Context, answer: Answer) -> Settled
     }
 }
 
-// Domain d, whose context is c at its last instruction, which went so. A send is the caller's: it needs the receiver too.
+// Domain d, whose context is c at its last instruction, which went so. A send is the caller's: it needs the receiver too. A yield and a receive
+// are told here as they are there.
 pub fn settle(count: u8, d: u8, c: Context, went: Went) -> Settled
     ensures { λ r. ⌜ r ≡ settlement count d c (deed c (c .registers) went) ⌝ }
 {
