@@ -21,6 +21,9 @@ fn word_event(bytes: &[u8]) -> EventRead
 pub fn event_at_front(bytes: &[u8]) -> EventRead
     ensures { λ r. ⌜ r ≡ event-read (now (bytes .entry)) ⌝ }
 {
+    if bytes.len() == 0 {
+        return EventRead::Broken(Refusal::EventShort);
+    }
     let kind = byte(bytes, 0);
     if kind == 1 {
         return EventRead::Whole(Event::Step, 1);

@@ -126,7 +126,8 @@ of-kind kind s =
     else (if eqb kind 3 then word-event s else EventRead.Broken Refusal.EventKind))
 
 unfoldable pub event-read : List ℕ → EventRead
-event-read s = of-kind (getD s 0 0) s
+event-read [] = EventRead.Broken Refusal.EventShort
+event-read (kind ∷ rest) = of-kind kind (kind ∷ rest)
 
 pub record Trace : Type 0 where
   pub events : List Event

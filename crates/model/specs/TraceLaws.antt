@@ -2,16 +2,18 @@
 --     rounds-enough                  more rounds give the same
 --     trace-empty, -whole, -broken   how reading goes on
 --     rest-end, -whole, -broken      the same, of the bytes that are left of a longer trace
+--     rest-read                      what is read of those bytes, as a slice has them
 --     rest-takes                     an event takes a byte at least, and no more than there are
 -- Assumes nothing.
-use Prim.Native.Nat.{ℕ, zero, suc, _+_, _≤_, _<_}
+use Prim.Native.Nat.{ℕ, zero, suc, _+_, _-_, _≤_, _<_}
 use mathlib.Core.Path.{_≡_, refl, sym, ap, _∙_}
 use mathlib.Core.List.{List, [], _∷_}
 use native.Mathlib.Omega.{arith}
 use lib.Dec.{leb, eqb}
-use lib.ListN.{length, getD, drop, length-drop, drop-of-length-le}
+use lib.ListN.{length, getD, take, drop, length-drop, drop-of-length-le}
 use lib.Seq.{drop-cons, drop-drop}
 use borrow.Author.Tests.{leb-true}
+use borrow.Rule.Slice.PartAt.{part-to-end}
 use Rattle.model.specs.BasicsLaws.{by-bool, either}
 use Rattle.model.specs.Events.{event-read, Trace, ended, follow, next, trace, trace-of}
 use Rattle.model.specs.declared.event.Event.{Event}
@@ -26,11 +28,11 @@ Takes (EventRead.Broken r) = Unit {0}
 
 event-takes : (s : List ℕ) → Takes (event-read s)
 unfolding event-read
-event-takes s =
-    let kind = getD s 0 0 in
+event-takes [] = tt
+event-takes (kind ∷ s) =
     either Takes (eqb kind 1) (omega arith)
     (either Takes (eqb kind 2) (omega arith)
-    (either Takes (eqb kind 3) (either Takes (leb 6 (length s)) (omega arith) tt) tt))
+    (either Takes (eqb kind 3) (either Takes (leb 6 (length (kind ∷ s))) (omega arith) tt) tt))
 
 next-alike :
     (at : ℕ) (r : EventRead) (go go′ : ℕ → Trace) → Takes r → ((n : ℕ) → 1 ≤ n → go n ≡ go′ n) → next at r go ≡ next at r go′
@@ -75,23 +77,27 @@ abbrev Within : List ℕ → EventRead → Type 0
 Within s (EventRead.Whole e n) = (1 ≤ n) × (n ≤ length s)
 Within s (EventRead.Broken r) = Unit {0}
 
-read-within : (s : List ℕ) → 0 < length s → Within s (event-read s)
+read-within : (s : List ℕ) → Within s (event-read s)
 unfolding event-read
-read-within s h =
-    let kind = getD s 0 0 in
-    by-bool (eqb kind 1) (λ e. rw e (omega arith, h))
-    (λ e. by-bool (eqb kind 2) (λ f. rw (e, f) (omega arith, h))
+read-within [] = tt
+read-within (kind ∷ s) =
+    let long = length (kind ∷ s) in
+    by-bool (eqb kind 1) (λ e. rw e (omega arith, omega arith))
+    (λ e. by-bool (eqb kind 2) (λ f. rw (e, f) (omega arith, omega arith))
     (λ f. by-bool (eqb kind 3)
-    (λ q. by-bool (leb 6 (length s)) (λ l. rw (e, f, q, l) (omega arith, leb-true 6 (length s) l)) (λ l. rw (e, f, q, l) tt))
+    (λ q. by-bool (leb 6 long) (λ l. rw (e, f, q, l) (omega arith, leb-true 6 long l)) (λ l. rw (e, f, q, l) tt))
     (λ q. rw (e, f, q) tt)))
 
-whole-takes : (s : List ℕ) (e : Event) (n : ℕ) → 0 < length s → event-read s ≡ EventRead.Whole e n → (1 ≤ n) × (n ≤ length s)
-whole-takes s e n h w = rw w at (read-within s h)
+whole-takes : (s : List ℕ) (e : Event) (n : ℕ) → event-read s ≡ EventRead.Whole e n → (1 ≤ n) × (n ≤ length s)
+whole-takes s e n w = rw w at (read-within s)
 
 -- at bytes of a trace are read
 module _ (bytes : List ℕ) (at : ℕ) where
   pub rest-end : length bytes ≤ at → trace-of at (drop at bytes) ≡ ended Close.Done
   rest-end h = ap (trace-of at) (drop-of-length-le bytes h) ∙ trace-empty at
+
+  pub rest-read : {r : EventRead} → r ≡ event-read (take (length bytes - at) (drop at bytes)) → event-read (drop at bytes) ≡ r
+  rest-read q = sym (q ∙ ap event-read (part-to-end bytes at))
 
   module _ (h : at < length bytes) where
     pub rest-broken :
@@ -111,4 +117,4 @@ module _ (bytes : List ℕ) (at : ℕ) where
     pub rest-takes : (e : Event) (n : ℕ) → event-read (drop at bytes) ≡ EventRead.Whole e n → (1 ≤ n) × (at + n ≤ length bytes)
     rest-takes e n w =
         let long = length-drop at bytes in
-        let takes = whole-takes (drop at bytes) e n (omega arith) w in (takes .0, omega (arith, takes .1))
+        let takes = whole-takes (drop at bytes) e n w in (takes .0, omega (arith, takes .1))
