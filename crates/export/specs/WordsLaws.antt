@@ -1,19 +1,19 @@
 -- Laws for the loops over words.
 --     eight-of     eight things that were made one by one
---     sets-past    what is laid past the end is not set
---     sets-more    one word laid, and then the rest
+--     Laying       a part that is laid word by word: laying-past, it meets the block's end; laying-on, one word more; laying-all, all lie
 --     alike-stop   the last of n words differs; alike-on: it is the same, and the others decide
 -- Assumes nothing.
 use Prim.Native.Nat.{ℕ, zero, suc, _+_, _-_, _<_, _≤_}
-use mathlib.Core.Path.{_≡_, refl, _∙_}
+use mathlib.Core.Path.{_≡_, refl, sym, _∙_}
 use mathlib.Core.Bool.{false, _&&_}
 use mathlib.Core.List.{List, [], _∷_}
 use native.Mathlib.Numerals.{add-one}
 use native.Mathlib.Omega.{arith}
 use lib.Dec.{eqb}
-use lib.ListN.{length, getD, set, drop}
+use lib.ListN.{length, getD, set, drop, length-set, drop-of-length-le}
 use lib.Seq.{sets, set-out, drop-cons}
 use borrow.Author.Tests.{eq-eqb, ne-eqb}
+use Rattle.model.specs.LoopLaws.{back}
 use Rattle.export.specs.Words.{alike, eight}
 
 pub eight-of :
@@ -22,20 +22,35 @@ pub eight-of :
     → a ∷ b ∷ c ∷ d ∷ e ∷ g ∷ h ∷ i ∷ [] ≡ eight f
 eight-of f A B C D E G H I = rw (A, B, C, D, E, G, H, I)
 
-pub sets-past : (l : List ℕ) (i : ℕ) (vs : List ℕ) → length l ≤ i → sets l i vs ≡ l
+sets-past : (l : List ℕ) (i : ℕ) (vs : List ℕ) → length l ≤ i → sets l i vs ≡ l
 sets-past l i [] h = refl
 sets-past l i (a ∷ vs) h = rw (set-out l i a h) (sets-past l (suc i) vs (omega arith))
 
-pub sets-more :
+sets-more :
     (l : List ℕ) (at : ℕ) (vs : List ℕ) (i : ℕ) → i < length vs
     → sets l at (drop i vs) ≡ sets (set l at (getD vs i 0)) (at + 1) (drop (i + 1) vs)
 sets-more l at vs i h = rw (add-one at, add-one i, drop-cons vs i 0 h)
+
+-- i words of the part lie in the block, and the next comes to `next`
+abbrev pub Laying : List ℕ → ℕ → List ℕ → List ℕ → ℕ → ℕ → Type 0
+Laying block at part now i next =
+    (i ≤ length part) × (length now ≡ length block) × (sets now next (drop i part) ≡ sets block at part)
+
+module _ (block : List ℕ) (at : ℕ) (part now : List ℕ) (i next : ℕ) (h : Laying block at part now i next) where
+  pub laying-past : length now ≤ next → now ≡ sets block at part
+  laying-past l = sym (sets-past now next (drop i part) l) ∙ h .2
+
+  pub laying-all : length part ≤ i → now ≡ sets block at part
+  laying-all l = let e = drop-of-length-le part l in rw e at (h .2)
+
+  pub laying-on : i < length part → Laying block at part (set now next (getD part i 0)) (i + 1) (next + 1)
+  laying-on l = (omega arith, simp length-set (h .1), sym (sets-more now next part i l) ∙ h .2)
 
 alike-turn :
     (xs ys : List ℕ) (n : ℕ) → 0 < n → alike xs ys n ≡ eqb (getD xs (n - 1) 0) (getD ys (n - 1) 0) && alike xs ys (n - 1)
 unfolding alike
 alike-turn xs ys zero h = absurd (omega arith)
-alike-turn xs ys (suc n) h = let e : suc n - 1 ≡ n = omega arith in rw e
+alike-turn xs ys (suc n) h = rw (back n)
 
 module _ (xs ys : List ℕ) (n : ℕ) (h : 0 < n) {x y : ℕ} (X : x ≡ getD xs (n - 1) 0) (Y : y ≡ getD ys (n - 1) 0) where
   pub alike-stop : (x ≡ y → ⊥) → alike xs ys n ≡ false

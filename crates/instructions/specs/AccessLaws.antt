@@ -8,6 +8,7 @@ use mathlib.Core.Option.{some}
 use native.Mathlib.Omega.{arith}
 use lib.ListN.{length, set}
 use lib.Seq.{sets}
+use Rattle.model.specs.LoopLaws.{back}
 use Rattle.model.specs.Map.{may, lowest}
 use Rattle.model.specs.Instructions.{peek, carry}
 use Rattle.model.specs.declared.map.Access.{Access}
@@ -23,7 +24,7 @@ module _ (allowed : ℕ → Bool) where
   pub lowest-on : (a n : ℕ) → 0 < n → allowed a ≡ true → lowest allowed a n ≡ lowest allowed (a + 1) (n - 1)
   unfolding lowest
   lowest-on a zero h e = absurd (omega arith)
-  lowest-on a (suc n) h e = let back : suc n - 1 ≡ n = omega arith in rw (e, back)
+  lowest-on a (suc n) h e = rw (e, back n)
 
   -- where it is denied, it is the lowest
   pub lowest-here : (a n : ℕ) → 0 < n → allowed a ≡ false → lowest allowed a n ≡ some a

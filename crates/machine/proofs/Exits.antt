@@ -3,10 +3,9 @@
 -- Assumes nothing.
 use Prim.Native.Nat.{ℕ, _-_, _≤_, _<_}
 use mathlib.Core.Path.{_≡_, refl, sym, _∙_}
-use mathlib.Core.Bool.{Bool, true, false}
 use mathlib.Core.List.{List, []}
 use native.Mathlib.Omega.{arith}
-use lib.Dec.{leb, eqb}
+use lib.Dec.{leb}
 use lib.ListN.{length, take, drop}
 use borrow.Author.Tests.{leb-true, eqb-true}
 use Rattle.model.specs.BasicsLaws.{and-left, and-right}
@@ -16,7 +15,7 @@ use Rattle.model.specs.Refusals.{check, _▸_, accepts}
 use Rattle.model.specs.RefusalsLaws.{check-true, then-left, then-right, acceptable, placed}
 use Rattle.model.specs.States.{no-state, start, well-formed}
 use Rattle.model.specs.Calls.{as-long, lent-verdict, node-verdict, view, starter}
-use Rattle.model.specs.TestLaws.{check-pass, check-stop, then-pass, then-stop}
+use Rattle.model.specs.TestLaws.{then-pass, then-stop}
 use Rattle.model.specs.declared.map.Region.{Region}
 use Rattle.model.specs.declared.map.Map.{Map}
 use Rattle.model.specs.declared.state.State.{State}
@@ -24,37 +23,37 @@ use Rattle.model.specs.declared.refusal.Refusal.{Refusal}
 use Rattle.model.specs.declared.call.Verdict.{Verdict}
 use Rattle.model.specs.declared.call.Started.{Started}
 
--- ---- the two verdicts: the map and grid, then 9, then one last test
+-- ---- the two verdicts: the map and grid with 9, then one last test
 
 unfoldable pub tests : Map → Grid → List ℕ → Verdict → Verdict
-tests m g memory w = accepts m g ▸ as-long m memory ▸ w
+tests m g memory w = (accepts m g ▸ as-long m memory) ▸ w
+
+then-then : (u v w : Verdict) → u ▸ v ▸ w ≡ (u ▸ v) ▸ w
+then-then Verdict.Accepted v w = refl
+then-then (Verdict.Refused r) v w = refl
 
 pub lent-tests :
     (m : Map) (g : Grid) (memory : List ℕ) (d : ℕ)
     → lent-verdict m g memory d ≡ tests m g memory (check (is-domain (m .count) d) Refusal.NoDomain)
 unfolding tests lent-verdict
-lent-tests m g memory d = refl
+lent-tests m g memory d = then-then (accepts m g) (as-long m memory) _
 
 pub node-tests :
     (m : Map) (g : Grid) (s : State) (memory : List ℕ)
     → node-verdict m g s memory ≡ tests m g memory (check (well-formed (m .count) s) Refusal.Malformed)
 unfolding tests node-verdict
-node-tests m g s memory = refl
+node-tests m g s memory = then-then (accepts m g) (as-long m memory) _
 
 module _
-    (m : Map) (g : Grid) (memory : List ℕ) (w : Verdict) {u v : Verdict} (U : u ≡ tests m g memory w) (A : v ≡ accepts m g) where
+    (m : Map) (g : Grid) (memory : List ℕ) (w : Verdict) {u v : Verdict} (U : u ≡ tests m g memory w)
+    (A : v ≡ accepts m g ▸ as-long m memory) where
   pub tests-refused : {r : Refusal} → v ≡ Verdict.Refused r → Verdict.Refused r ≡ u
   unfolding tests
-  tests-refused e = sym (U ∙ then-stop _ (sym A ∙ e))
+  tests-refused e = sym (U ∙ then-stop w (sym A ∙ e))
 
-  module _ (e : v ≡ Verdict.Accepted) {x : Bool} (X : x ≡ eqb (length memory) (m .length)) where
-    pub tests-unlike : x ≡ false → Verdict.Refused Refusal.Memory ≡ u
-    unfolding tests
-    tests-unlike f = sym (U ∙ then-pass _ (sym A ∙ e) ∙ then-stop w (check-stop Refusal.Memory X f))
-
-    pub tests-last : {y : Verdict} → x ≡ true → y ≡ w → y ≡ u
-    unfolding tests
-    tests-last f W = W ∙ sym (U ∙ then-pass _ (sym A ∙ e) ∙ then-pass w (check-pass Refusal.Memory X f))
+  pub tests-last : {y : Verdict} → v ≡ Verdict.Accepted → y ≡ w → y ≡ u
+  unfolding tests
+  tests-last e W = W ∙ sym (U ∙ then-pass w (sym A ∙ e))
 
 -- ---- start
 

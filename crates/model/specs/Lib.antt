@@ -10,7 +10,7 @@
 --     Calls          the public calls: the tests that each makes, and what it returns and leaves
 --     Program        "The program": what it prints
 --     Whole          one name that opens all definitions
---     TestLaws       for code that makes the definitions' tests one by one
+--     TestLaws       for code that makes the definitions' tests one by one; LoopLaws: for code that counts
 -- A file ..Edges has its section's definitions at both sides of an edge, by computation.
 pub mod Basics
 pub mod BasicsLaws
@@ -20,6 +20,7 @@ pub mod MapLaws
 pub mod Refusals
 pub mod RefusalsLaws
 pub mod TestLaws
+pub mod LoopLaws
 pub mod Sheet
 pub mod ChannelEdges
 pub mod GridLaws

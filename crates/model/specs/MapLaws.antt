@@ -87,7 +87,7 @@ may-read d Access.Fetch a e = rw e
 -- ---- the lowest denied address
 
 module _ (allowed : ℕ → Bool) where
-  -- none is denied exactly if each is allowed
+  -- where none is denied each is allowed; `lowest-denied` is the other way
   pub lowest-none : (a n : ℕ) → lowest allowed a n ≡ none → (i : ℕ) → i < n → allowed (a + i) ≡ true
   unfolding lowest
   lowest-none a zero e i h = absurd (omega arith)

@@ -8,6 +8,7 @@ use native.Mathlib.Omega.{arith}
 use lib.Dec.{leb, ltb}
 use borrow.Author.Tests.{leb-true, leb-false, le-ltb, lt-ltb}
 use Rattle.model.specs.BasicsLaws.{by-bool}
+use Rattle.model.specs.LoopLaws.{back}
 use Rattle.model.specs.Map.{nth, Grid}
 use Rattle.model.specs.Refusals.{_▸_, zero-domain, unused-zero, free-of, clear, domain-verdict, domains-verdict, cell, from, to, is-channel, channels-good}
 use Rattle.model.specs.declared.map.Region.{Region}
@@ -24,9 +25,6 @@ unused c n z =
     by-bool (leb c n)
     (λ e. rw (e, le-ltb n c (leb-true c n e)) (bad true z))
     (λ e. rw (e, lt-ltb n c (leb-false c n e)))
-
-back : (n : ℕ) → suc n - 1 ≡ n
-back n = omega arith
 
 pub unused-turn :
     (m : Map) (n : ℕ) → 0 < n → unused-zero m n

@@ -9,14 +9,12 @@ use native.Mathlib.Omega.{arith}
 use lib.Dec.{ltb, eqb}
 use lib.ListN.{getD, set, replicate}
 use Rattle.model.specs.Basics.{if_then_else_}
+use Rattle.model.specs.LoopLaws.{back}
 use Rattle.model.specs.Map.{most, nth}
 use Rattle.model.specs.States.{blank, missing, at-entry, is-ready, ready, seated, start, any-ready, context-good, zeros, is-blank, contexts-good, after, first-ready}
 use Rattle.model.specs.declared.map.Map.{Map}
 use Rattle.model.specs.declared.state.Context.{Context}
 use Rattle.model.specs.declared.state.State.{State}
-
-back : (n : ℕ) → suc n - 1 ≡ n
-back n = omega arith
 
 pub zeros-turn : (xs : List ℕ) (n : ℕ) → 0 < n → zeros xs n ≡ eqb (getD xs (n - 1) 0) 0 && zeros xs (n - 1)
 unfolding zeros

@@ -9,6 +9,7 @@ use mathlib.Core.Bool.{true, false}
 use mathlib.Core.List.{List}
 use native.Mathlib.Omega.{arith}
 use lib.ListN.{length}
+use Rattle.model.specs.LoopLaws.{back}
 use Rattle.model.specs.States.{full, is-ready, set-register, received, own, put-own, context, put, ready, after, first-ready, switch, with-active}
 use Rattle.model.specs.StatesLaws.{context-same, ready-put, woken-ready, put-long}
 use Rattle.model.specs.Instructions.{Deed}
@@ -27,7 +28,7 @@ module _ (count : ℕ) (s : State) where
   pub seek-past : (n d : ℕ) → 0 < n → ready s d ≡ false → seek count (s .contexts) n d ≡ seek count (s .contexts) (n - 1) (after count d)
   unfolding seek
   seek-past zero d h e = absurd (omega arith)
-  seek-past (suc n) d h e = let back : suc n - 1 ≡ n = omega arith in rw (e, back)
+  seek-past (suc n) d h e = rw (e, back n)
 
   first-seek : (n d : ℕ) → first-ready count s n d ≡ seek count (s .contexts) n (after count d)
   unfolding seek first-ready

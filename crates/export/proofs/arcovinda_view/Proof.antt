@@ -17,18 +17,7 @@ element-copy-out-own c =
     view-bounds _ _ _ _ (at-view-verdict .view-verdict .ensures) (c .before .enum-told .given .1) .1
 
 returns : tie.Need-returns
-returns c =
-    let at-verdict = c .before .before in
-    let at-view-verdict = at-verdict .before .before in
-    let at-grid-of = at-view-verdict .before in
-    let at-map-of = at-grid-of .before .before in
-    view-refused _ _
-    (at-map-of .map-of .ensures)
-    (at-grid-of .grid-of .ensures)
-    _ _
-    (at-view-verdict .view-verdict .ensures)
-    (at-verdict .verdict .given .1)
-    (c .refusal-number .ensures)
+returns c = search view-refused
 
 returns-2 : tie.Need-returns-2
 returns-2 c =

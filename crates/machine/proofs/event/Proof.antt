@@ -13,16 +13,6 @@ happen-requires c κs =
     tested _ _ _ _ (at-node-verdict .node-verdict .ensures) (c .before .enum-told .given .1)
     (let start = at-before .before in eight (start .args .s) _ (start .good .1 .1 .0))
 
-returns : tie.Need-returns
-returns c = event-refused _ _ _ _ (c .before .before .before .node-verdict .ensures) (c .before .verdict .given .1) _
-
-returns-2 : tie.Need-returns-2
-returns-2 c =
-    let at-happen = c .before .before .before in
-    let at-enum-told = at-happen .before .before in
-    let at-node-verdict = at-enum-told .before .before in
-    event-done _ _ _ _ (at-node-verdict .node-verdict .ensures) (at-enum-told .enum-told .given .1) _ (at-happen .happen .ensures)
-
 pub event-spec : {M : Type 1} → statement M
 event-spec =
     tie.close
@@ -32,6 +22,6 @@ event-spec =
     (λ c. search needs)
     happen-requires
     (λ c. search needs)
-    returns
+    (λ c. search event-refused)
     (λ c. search needs)
-    returns-2)
+    (λ c. search event-done))

@@ -13,16 +13,6 @@ play-on-requires c κs =
     tested _ _ _ _ (at-node-verdict .node-verdict .ensures) (c .before .enum-told .given .1)
     (let start = at-before .before in eight (start .args .s) _ (start .good .1 .1 .0))
 
-returns : tie.Need-returns
-returns c = play-refused _ _ _ _ (c .before .before .before .node-verdict .ensures) (c .before .verdict .given .1) _
-
-returns-2 : tie.Need-returns-2
-returns-2 c =
-    let at-play-on = c .before .before in
-    let at-enum-told = at-play-on .before .before in
-    let at-node-verdict = at-enum-told .before .before in
-    play-done _ _ _ _ (at-node-verdict .node-verdict .ensures) (at-enum-told .enum-told .given .1) _ (at-play-on .play-on .ensures)
-
 pub play-spec : {M : Type 1} → statement M
 play-spec =
     tie.close
@@ -32,6 +22,6 @@ play-spec =
     (λ c. search needs)
     play-on-requires
     (λ c. search needs)
-    returns
+    (λ c. search play-refused)
     (λ c. search needs)
-    returns-2)
+    (λ c. search play-done))

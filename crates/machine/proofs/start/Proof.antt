@@ -13,12 +13,6 @@ start-requires c κs =
     let a = at-acceptable .before .args in
     acceptable (a .m) (a .g) (sym (at-acceptable .acceptable .ensures) ∙ c .enum-told2 .given .1) .few
 
-returns : tie.Need-returns
-returns c = start-refused _ _ (c .before .before .before .acceptable .ensures) (c .before .enum-told .given .1) (c .no-state .ensures)
-
-returns-2 : tie.Need-returns-2
-returns-2 c = start-ready _ _ (c .before .before .before .acceptable .ensures) (c .before .enum-told2 .given .1) (c .start .ensures)
-
 pub start-spec : {M : Type 1} → statement M
 start-spec =
     tie.close
@@ -28,5 +22,5 @@ start-spec =
     (λ c κs. search needs)
     (λ c. search needs)
     start-requires
-    returns
-    returns-2)
+    (λ c. search start-refused)
+    (λ c. search start-ready))

@@ -21,14 +21,6 @@ part-result-end c =
     let at-enum-told = c .before .before .before .before in
     view-bounds _ _ _ _ (at-enum-told .before .before .lent-verdict .ensures) (at-enum-told .enum-told2 .given .1) .3
 
-returns : tie.Need-returns
-returns c = view-refused _ _ _ _ (c .before .before .before .lent-verdict .ensures) (c .before .enum-told .given .1)
-
-returns-2 : tie.Need-returns-2
-returns-2 c =
-    let at-enum-told = c .before .before .before .before .before in
-    view-part _ _ _ _ (at-enum-told .before .before .lent-verdict .ensures) (at-enum-told .enum-told2 .given .1)
-
 pub view-spec : {M : Type 1} → statement M
 view-spec =
     tie.close
@@ -45,5 +37,5 @@ view-spec =
     sub-result
     sub-result
     part-result-end
-    returns
-    returns-2)
+    (λ c. search view-refused)
+    (λ c. search view-part))

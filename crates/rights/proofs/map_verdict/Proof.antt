@@ -1,7 +1,6 @@
 -- `rights::map_verdict` meets its contract. Each exit is a law of a map's tests; the count that has passed is at most eight.
 -- Assumes nothing.
 use mathlib.Core.Path.{sym, _∙_}
-use borrow.Author.Needs.{needs}
 use borrow.Author.Tests.{not-true, not-false}
 use Rattle.model.specs.BasicsLaws.{and-left}
 use Rattle.model.specs.Map.{most}
@@ -59,15 +58,4 @@ returns-4 c =
     (c .before .within .ensures) (c .if3 .left)
 
 pub map-verdict-spec : {M : Type 1} → statement M
-map-verdict-spec =
-    tie.close
-    (tie.spec
-    (λ c κs. search needs)
-    (λ c κs. search needs)
-    returns
-    (λ c κs. search needs)
-    returns-2
-    (λ c κs. search needs)
-    domains-verdict-requires
-    returns-3
-    returns-4)
+map-verdict-spec = tie.close (search (tie.spec, returns, returns-2, domains-verdict-requires, returns-3, returns-4))

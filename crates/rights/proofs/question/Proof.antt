@@ -22,26 +22,6 @@ element-copy-out-own c =
     let few = acceptable (a .t1) (a .g) (sym (at-acceptable .acceptable .ensures) ∙ at-enum-told .enum-told .given .1) .few in
     omega arith
 
-returns : tie.Need-returns
-returns c = ask-refused _ _ _ _ _ (c .before .before .before .acceptable .ensures) (c .before .verdict .given .1)
-
-returns-2 : tie.Need-returns-2
-returns-2 c =
-    let at-if1 = c .before .before .before in
-    let at-is-domain = at-if1 .before in
-    let at-enum-told = at-is-domain .before in
-    let at-acceptable = at-enum-told .before .before in
-    ask-answered _ _ _ _ _
-    (at-acceptable .acceptable .ensures) (at-enum-told .enum-told .given .1)
-    (at-is-domain .is-domain .ensures) (at-if1 .if1 .taken)
-    (c .before .may .ensures) (c .permitted .ensures)
-
-returns-3 : tie.Need-returns-3
-returns-3 c =
-    ask-nobody _ _ _ _ _
-    (c .before .before .before .before .acceptable .ensures) (c .before .before .enum-told .given .1)
-    (c .before .is-domain .ensures) (c .if1 .left)
-
 pub question-spec : {M : Type 1} → statement M
 question-spec =
     tie.close
@@ -55,6 +35,6 @@ question-spec =
     element-copy-out-own
     (λ c κs. search needs)
     (λ c κs. search needs)
-    returns
-    returns-2
-    returns-3)
+    (λ c. search ask-refused)
+    (λ c. search ask-answered)
+    (λ c. search ask-nobody))

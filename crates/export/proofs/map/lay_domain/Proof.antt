@@ -4,11 +4,6 @@ use borrow.Author.Needs.{needs}
 use Rattle.export.proofs.map.lay_domain.Statement.{statement}
 use Rattle.export.proofs.map.lay_domain.Tie as tie
 
-returns : tie.Need-returns
-returns c =
-    let at-domain-words = c .before .before .before in
-    rw (c .lay .ensures, at-domain-words .domain-words .ensures)
-
 pub lay-domain-spec : {M : Type 1} → statement M
 lay-domain-spec =
     tie.close
@@ -18,4 +13,4 @@ lay-domain-spec =
     (λ c. search needs)
     (λ c. search needs)
     (λ c κs. search needs)
-    returns)
+    (λ c. rw (c .lay .ensures, c .before .before .before .domain-words .ensures)))

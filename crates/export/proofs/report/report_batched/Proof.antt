@@ -4,11 +4,6 @@ use borrow.Author.Needs.{needs}
 use Rattle.export.proofs.report.report_batched.Statement.{statement}
 use Rattle.export.proofs.report.report_batched.Tie as tie
 
-returns : tie.Need-returns
-returns c =
-    let at-ending = c .before .before in
-    rw (c .refusal-number .ensures, at-ending .ending .given .1)
-
 pub report-batched-spec : {M : Type 1} → statement M
 report-batched-spec =
     tie.close
@@ -19,6 +14,6 @@ report-batched-spec =
     (λ c κs. search needs)
     (λ c. search needs)
     (λ c κs. search needs)
-    returns
+    (λ c. rw (c .refusal-number .ensures, c .before .before .ending .given .1))
     (λ c. rw (c .packed .ensures, c .before .enum-told .given .1))
     (λ c. rw (c .packed2 .ensures, c .before .enum-told2 .given .1)))

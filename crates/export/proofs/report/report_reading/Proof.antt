@@ -4,11 +4,6 @@ use borrow.Author.Needs.{needs}
 use Rattle.export.proofs.report.report_reading.Statement.{statement}
 use Rattle.export.proofs.report.report_reading.Tie as tie
 
-returns-2 : tie.Need-returns-2
-returns-2 c =
-    let at-reading = c .before .before in
-    rw (c .refusal-number .ensures, at-reading .reading .given .1)
-
 pub report-reading-spec : {M : Type 1} → statement M
 report-reading-spec =
     tie.close
@@ -17,4 +12,4 @@ report-reading-spec =
     (λ c. search needs)
     (λ c κs. search needs)
     (λ c. search needs)
-    returns-2)
+    (λ c. rw (c .refusal-number .ensures, c .before .before .reading .given .1)))

@@ -4,11 +4,6 @@ use borrow.Author.Needs.{needs}
 use Rattle.export.proofs.report.report_writing.Statement.{statement}
 use Rattle.export.proofs.report.report_writing.Tie as tie
 
-returns-2 : tie.Need-returns-2
-returns-2 c =
-    let at-writing2 = c .before .before in
-    rw (c .refusal-number .ensures, at-writing2 .writing2 .given .1)
-
 pub report-writing-spec : {M : Type 1} → statement M
 report-writing-spec =
     tie.close
@@ -17,4 +12,4 @@ report-writing-spec =
     (λ c. search needs)
     (λ c κs. search needs)
     (λ c. search needs)
-    returns-2)
+    (λ c. rw (c .refusal-number .ensures, c .before .before .writing2 .given .1)))

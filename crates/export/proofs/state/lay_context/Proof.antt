@@ -4,11 +4,6 @@ use borrow.Author.Needs.{needs}
 use Rattle.export.proofs.state.lay_context.Statement.{statement}
 use Rattle.export.proofs.state.lay_context.Tie as tie
 
-returns : tie.Need-returns
-returns c =
-    let at-context-words = c .before .before .before in
-    rw (c .lay .ensures, at-context-words .context-words .ensures)
-
 pub lay-context-spec : {M : Type 1} → statement M
 lay-context-spec =
     tie.close
@@ -18,4 +13,4 @@ lay-context-spec =
     (λ c. search needs)
     (λ c. search needs)
     (λ c κs. search needs)
-    returns)
+    (λ c. rw (c .lay .ensures, c .before .before .before .context-words .ensures)))

@@ -4,6 +4,7 @@ use Prim.Native.Nat.{_≤_}
 use mathlib.Core.Path.{_≡_, refl, sym, _∙_}
 use native.Mathlib.Omega.{arith}
 use borrow.Author.Needs.{needs}
+use Rattle.model.specs.LoopLaws.{spent}
 use Rattle.export.specs.Words.{alike}
 use Rattle.export.specs.WordsLaws.{alike-stop, alike-on}
 use Rattle.export.proofs.words.same.Statement.{statement}
@@ -29,10 +30,7 @@ loop-again c =
 
 returns-2 : tie.Need-returns-2 Inv-loop μ-loop
 unfolding alike
-returns-2 c =
-    let l = c .before .loop in
-    let e : l .i ≡ 0 = omega arith in
-    rw e at (l .inv .1)
+returns-2 c = spent (alike _ _) (c .before .loop .inv .1) (c .loop-test .left)
 
 pub same-spec : {M : Type 1} → statement M
 same-spec =

@@ -6,6 +6,7 @@ use mathlib.Core.Path.{_≡_, refl, sym, _∙_}
 use native.Mathlib.Omega.{arith}
 use borrow.Author.Needs.{needs}
 use borrow.Author.Tests.{not-true, not-false}
+use Rattle.model.specs.LoopLaws.{spent}
 use Rattle.model.specs.Map.{may, lowest}
 use Rattle.instructions.specs.Home.{home-covers}
 use Rattle.instructions.specs.AccessLaws.{lowest-on, lowest-here}
@@ -37,10 +38,7 @@ loop-again c =
 
 returns-3 : tie.Need-returns-3 Inv-loop μ-loop
 unfolding lowest
-returns-3 c =
-    let l = c .before .loop in
-    let e : l .left ≡ 0 = omega arith in
-    rw e at (l .inv .1)
+returns-3 c = spent (lowest _ _) (c .before .loop .inv .1) (c .loop-test .left)
 
 pub first-denied-spec : {M : Type 1} → statement M
 first-denied-spec =

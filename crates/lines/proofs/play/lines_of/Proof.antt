@@ -5,19 +5,19 @@ use Prim.Native.Nat.{ℕ, _+_, _-_, _≤_}
 use mathlib.Core.Path.{_≡_, refl, sym, ap, _∙_}
 use mathlib.Core.List.{List}
 use native.Mathlib.Omega.{arith}
-use lib.ListN.{length, take, drop}
+use lib.ListN.{length, drop}
 use mir.Syntax.{w64}
 use mir.Val.{Fits}
-use borrow.Rule.Slice.PartAt.{part-to-end}
 use borrow.Author.Needs.{needs}
 use Rattle.model.specs.Map.{Grid}
 use Rattle.model.specs.Refusals.{accepts}
 use Rattle.model.specs.SoundLaws.{Sound}
 use Rattle.model.specs.Events.{event-read}
-use Rattle.model.specs.TraceLaws.{rest-takes}
+use Rattle.model.specs.TraceLaws.{rest-read, rest-takes}
 use Rattle.model.specs.Calls.{left, starter}
 use Rattle.model.specs.Program.{of-trace, shown}
 use Rattle.model.specs.declared.map.Map.{Map}
+use Rattle.model.specs.declared.event.Event.{Event}
 use Rattle.model.specs.declared.event.EventRead.{EventRead}
 use Rattle.model.specs.declared.call.Verdict.{Verdict}
 use Rattle.model.specs.declared.call.Started.{Started}
@@ -47,9 +47,23 @@ whole :
 whole m g a bytes memory out q =
     ap (λ s. tells m g bytes 0 0 (left 0 out) s memory) (starts m g a q .0) ∙ tells-start m g bytes memory out
 
--- what is read of the bytes from `at` on
-front : (bytes : List ℕ) (at : ℕ) {r : EventRead} → r ≡ event-read (take (length bytes - at) (drop at bytes)) → event-read (drop at bytes) ≡ r
-front bytes at q = sym (q ∙ ap event-read (part-to-end bytes at))
+-- what a turn has read of the bytes from `at` on
+front :
+    (c : tie.After-read-event Inv-loop μ-loop) → let turned = c .before .before .before in
+    event-read (drop (turned .loop .at) (turned .before .before .before .before .before .before .args .trace .now)) ≡ c .read-event .result
+front c =
+    let turned = c .before .before .before in
+    rest-read (turned .before .before .before .before .before .before .args .trace .now) (turned .loop .at) (c .read-event .ensures)
+
+-- how far it goes with an event
+far :
+    (c : tie.After-read Inv-loop μ-loop) {e : Event} {n : ℕ} → c .before .before .read-event .result ≡ EventRead.Whole e n
+    → let turned = c .before .before .before .before .before in
+    (1 ≤ n) × (turned .loop .at + n ≤ length (turned .before .before .before .before .before .before .args .trace .now))
+far c w =
+    let turned = c .before .before .before .before .before in
+    rest-takes (turned .before .before .before .before .before .before .args .trace .now) (turned .loop .at) (omega arith) _ _
+    (front (c .before .before) ∙ w)
 
 returns : tie.Need-returns Inv-loop μ-loop
 returns c =
@@ -62,18 +76,14 @@ returns c =
     let bytes = a .trace .now in
     stops (a .m) (a .g) (start .pre .0) (loop .s) (loop .memory) (loop .inv .0) (loop .inv .2) bytes (loop .at) (loop .n)
     (left (loop .end) (loop .out)) (omega arith) _ (at-broken .before .before .enum-told .given .1)
-    (front bytes (loop .at) (at-read .read-event .ensures)) (at-broken .broken-line .ensures) (c .before .before .active-line .ensures)
+    (front at-read) (at-broken .broken-line .ensures) (c .before .before .active-line .ensures)
     ∙ loop .inv .4 ∙ whole (a .m) (a .g) (start .pre .0) bytes (a .memory .now) (a .out .now) (turned .before .before .start .ensures)
 
 add-at : tie.Need-add-at Inv-loop μ-loop
 add-at c =
-    let at-read = c .before .before .before .before .before .before .before .before in
-    let turned = at-read .before .before .before in
-    let bytes = turned .before .before .before .before .before .before .args .trace .now in
-    let far =
-    rest-takes bytes (turned .loop .at) (omega arith) _ _
-    (front bytes (turned .loop .at) (at-read .read-event .ensures) ∙ c .before .before .before .before .before .before .read .given .1) in
-    omega (arith, far .1, turned .before .before .before .before .before .before .good .1 .1 .1 .0 .0)
+    let at-whole = c .before .before .before .before .before .before in
+    let start = at-whole .before .before .before .before .before .before .before .before .before .before .before in
+    omega (arith, far at-whole (at-whole .read .given .1) .1, start .good .1 .1 .1 .0 .0)
 
 add-n : tie.Need-add-n Inv-loop μ-loop
 add-n c =
@@ -83,13 +93,8 @@ add-n c =
 
 loop-less : tie.Need-loop-less Inv-loop μ-loop
 loop-less c =
-    let at-read = c .before .before .before .before .before .before .before .before .before .before .before .before in
-    let turned = at-read .before .before .before in
-    let bytes = turned .before .before .before .before .before .before .args .trace .now in
-    let far =
-    rest-takes bytes (turned .loop .at) (omega arith) _ _
-    (front bytes (turned .loop .at) (at-read .read-event .ensures) ∙ c .before .before .before .before .before .before .before .before .before .before .read .given .1) in
-    omega (arith, far .0)
+    let at-whole = c .before .before .before .before .before .before .before .before .before .before in
+    omega (arith, far at-whole (at-whole .read .given .1) .0)
 
 loop-again : tie.Need-loop-again Inv-loop μ-loop
 loop-again c =
@@ -100,13 +105,11 @@ loop-again c =
     let start = turned .before .before .before .before .before .before in
     let a = start .args in
     let loop = turned .loop in
-    let bytes = a .trace .now in
-    let w = front bytes (loop .at) (at-read .read-event .ensures) ∙ at-whole .read .given .1 in
-    let far = rest-takes bytes (loop .at) (omega arith) _ _ w in
+    let told = at-whole .read .given .1 in
     let next =
-    turns (a .m) (a .g) (start .pre .0) (loop .s) (loop .memory) (loop .inv .0) (loop .inv .2) bytes (loop .at) (loop .n)
-    (left (loop .end) (loop .out)) (omega arith) _ _ w (at-event .event .ensures) (c .before .before .reply-line .ensures) in
-    (next .0, c .before .out3 .given ∙ loop .inv .1, next .1, omega (arith, far .0, loop .inv .3), next .2 ∙ loop .inv .4)
+    turns (a .m) (a .g) (start .pre .0) (loop .s) (loop .memory) (loop .inv .0) (loop .inv .2) (a .trace .now) (loop .at) (loop .n)
+    (left (loop .end) (loop .out)) (omega arith) _ _ (front at-read ∙ told) (at-event .event .ensures) (c .before .before .reply-line .ensures) in
+    (next .0, c .before .out3 .given ∙ loop .inv .1, next .1, omega (arith, far at-whole told .0, loop .inv .3), next .2 ∙ loop .inv .4)
 
 same-length : tie.Need-same-length Inv-loop μ-loop
 same-length c = c .before .before .before .before .before .before .before .before .before .before .before .before .before .loop .inv .0 ∙ sym (c .before .before .before .before .before .before .before .before .before .before .before .before .before .before .before .before .before .before .before .pre .1)

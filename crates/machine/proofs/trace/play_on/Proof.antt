@@ -5,21 +5,18 @@ use Prim.Native.Nat.{ℕ, _+_, _-_, _≤_, _<_}
 use mathlib.Core.Path.{_≡_, sym, ap, _∙_, subst}
 use mathlib.Core.List.{List}
 use native.Mathlib.Omega.{arith}
-use lib.ListN.{length, take, drop}
-use borrow.Rule.Slice.PartAt.{part-to-end}
+use lib.ListN.{length, drop}
 use borrow.Author.Needs.{needs}
 use Rattle.model.specs.Map.{Grid}
 use Rattle.model.specs.SoundLaws.{Sound}
 use Rattle.model.specs.Events.{Outcome, gives, event, event-read}
-use Rattle.model.specs.TraceLaws.{rest-takes}
+use Rattle.model.specs.TraceLaws.{rest-read, rest-takes}
 use Rattle.model.specs.Calls.{left}
 use Rattle.model.specs.declared.map.Map.{Map}
 use Rattle.model.specs.declared.state.State.{State}
 use Rattle.model.specs.declared.event.Answer.{Answer}
 use Rattle.model.specs.declared.event.Event.{Event}
 use Rattle.model.specs.declared.event.EventRead.{EventRead}
-use Rattle.model.specs.declared.refusal.Refusal.{Refusal}
-use Rattle.model.specs.declared.call.Close.{Close}
 use Rattle.promises.specs.Kept.{each-keeps}
 use Rattle.machine.specs.Playing.{closed, plays}
 use Rattle.machine.specs.PlayingLaws.{plays-end, plays-broken, plays-whole}
@@ -34,76 +31,65 @@ Inv-loop m g memory₀ trace t₀ at₀ events₀ memory t at events =
 abbrev μ-loop : tie.MeasureT-loop
 μ-loop m g memory₀ trace t₀ at₀ events₀ memory t at events = length trace - at
 
--- what is read of the bytes from `at` on
-module _ (bytes : List ℕ) (at : ℕ) (r : EventRead) (q : r ≡ event-read (take (length bytes - at) (drop at bytes)))
-    (h : at < length bytes) where
-  front : event-read (drop at bytes) ≡ r
-  front = sym (q ∙ ap event-read (part-to-end bytes at))
+-- at the bytes from `at` on: an event, and what it makes of the node
+turn :
+    (bytes : List ℕ) (at : ℕ) → at < length bytes → (e : Event) (n : ℕ) → event-read (drop at bytes) ≡ EventRead.Whole e n
+    → (m : Map) (g : Grid) (k : ℕ) (s : State) (memory : List ℕ) (a : Answer) (t : State) (memory′ : List ℕ)
+    → Sound (m .count) s → k ≤ at → gives a t memory′ ≡ event m g s memory e
+    → (length memory′ ≡ length memory) × Sound (m .count) t × (k + 1 ≤ at + n)
+    × (plays m g bytes (at + n) (k + 1) t memory′ ≡ plays m g bytes at k s memory)
+turn bytes at h e n w m g k s memory a t memory′ i l f =
+    let After : Outcome → Type 0 =
+    λ o. (length (o .memory) ≡ length memory) × Sound (m .count) (o .state) × (k + 1 ≤ at + n)
+    × (plays m g bytes (at + n) (k + 1) (o .state) (o .memory) ≡ plays m g bytes at k s memory) in
+    let keeps = each-keeps m g s memory e i in
+    let next = sym (plays-whole m g bytes at k s memory h e n w) in
+    subst After (sym f) (keeps .1, keeps .0, omega (arith, rest-takes bytes at h e n w .0), next)
 
-  -- an event: how many bytes it takes, and what it makes of the node
-  module _ (e : Event) (n : ℕ) (w : r ≡ EventRead.Whole e n) where
-    goes : (1 ≤ n) × (at + n ≤ length bytes)
-    goes = rest-takes bytes at h e n (front ∙ w)
+-- what a turn has read of them
+front :
+    (c : tie.After-event-at-front Inv-loop μ-loop) → let turned = c .before .before .before in
+    event-read (drop (turned .loop .at) (turned .before .before .before .args .trace .now)) ≡ c .event-at-front .result
+front c =
+    let turned = c .before .before .before in
+    rest-read (turned .before .before .before .args .trace .now) (turned .loop .at) (c .event-at-front .ensures)
 
-    turn :
-        (m : Map) (g : Grid) (k : ℕ) (s : State) (memory : List ℕ) (a : Answer) (t : State) (memory′ : List ℕ)
-        → Sound (m .count) s → k ≤ at → gives a t memory′ ≡ event m g s memory e
-        → (length memory′ ≡ length memory) × Sound (m .count) t × (k + 1 ≤ at + n)
-        × (plays m g bytes (at + n) (k + 1) t memory′ ≡ plays m g bytes at k s memory)
-    turn m g k s memory a t memory′ i l f =
-        let After : Outcome → Type 0 =
-        λ o. (length (o .memory) ≡ length memory) × Sound (m .count) (o .state) × (k + 1 ≤ at + n)
-        × (plays m g bytes (at + n) (k + 1) (o .state) (o .memory) ≡ plays m g bytes at k s memory) in
-        let keeps = each-keeps m g s memory e i in
-        let next = sym (plays-whole m g bytes at k s memory h e n (front ∙ w)) in
-        subst After (sym f) (keeps .1, keeps .0, omega (arith, goes .0), next)
-
-  -- a broken record
-  stops :
-      (x : Refusal) → r ≡ EventRead.Broken x → (m : Map) (g : Grid) (k : ℕ) (s : State) (memory : List ℕ) (z : Close)
-      → z ≡ closed r at → left (record { close = z; events = k; state = s }) memory ≡ plays m g bytes at k s memory
-  stops x w m g k s memory z p =
-      ap (λ y. left (record { close = y; events = k; state = s }) memory) (p ∙ ap (λ y. closed y at) w)
-      ∙ plays-broken m g bytes at k s memory h x (front ∙ w)
+-- how far it goes with an event
+far :
+    (c : tie.After-read Inv-loop μ-loop) {e : Event} {n : ℕ} → c .before .before .event-at-front .result ≡ EventRead.Whole e n
+    → let turned = c .before .before .before .before .before in
+    (1 ≤ n) × (turned .loop .at + n ≤ length (turned .before .before .before .args .trace .now))
+far c w =
+    let turned = c .before .before .before .before .before in
+    rest-takes (turned .before .before .before .args .trace .now) (turned .loop .at) (omega arith) _ _ (front (c .before .before) ∙ w)
 
 returns : tie.Need-returns Inv-loop μ-loop
 returns c =
     let read = c .before .before .before in
+    let told = c .before .enum-told .given .1 in
     let turned = read .before .before .before in
-    let start = turned .before .before .before in
-    stops (start .args .trace .now) (turned .loop .at) _ (read .event-at-front .ensures) (omega arith) _ (c .before .enum-told .given .1)
-    _ _ _ _ _ _ (c .broken .ensures)
-    ∙ turned .loop .inv .3
+    let bytes = turned .before .before .before .args .trace .now in
+    let closes = c .broken .ensures ∙ ap (λ y. closed y (turned .loop .at)) told in
+    ap (λ y. left (record { close = y; events = turned .loop .events; state = turned .loop .t }) (turned .loop .memory)) closes
+    ∙ plays-broken _ _ bytes (turned .loop .at) _ _ _ (omega arith) _ (front read ∙ told) ∙ turned .loop .inv .3
 
 add-at : tie.Need-add-at Inv-loop μ-loop
 add-at c =
     let whole = c .before .before .before .before .before .before in
-    let read = whole .before .before in
-    let turned = read .before .before .before in
-    let start = turned .before .before .before in
-    let far =
-    goes (start .args .trace .now) (turned .loop .at) _ (read .event-at-front .ensures) (omega arith) _ _ (whole .read .given .1) in
-    omega (arith, far .1, start .good .1 .1 .1 .1 .0 .0)
+    let start = whole .before .before .before .before .before .before .before .before in
+    omega (arith, far whole (whole .read .given .1) .1, start .good .1 .1 .1 .1 .0 .0)
 
 loop-less : tie.Need-loop-less Inv-loop μ-loop
-loop-less c =
-    let whole = c .before .before .before .before .before .before in
-    let read = whole .before .before in
-    let turned = read .before .before .before in
-    let start = turned .before .before .before in
-    let far =
-    goes (start .args .trace .now) (turned .loop .at) _ (read .event-at-front .ensures) (omega arith) _ _ (whole .read .given .1) in
-    omega (arith, far .0)
+loop-less c = let whole = c .before .before .before .before .before .before in omega (arith, far whole (whole .read .given .1) .0)
 
 loop-again : tie.Need-loop-again Inv-loop μ-loop
 loop-again c =
     let whole = c .before .before .before .before .before .before in
     let read = whole .before .before in
     let turned = read .before .before .before in
-    let start = turned .before .before .before in
     let inv = turned .loop .inv in
     let after =
-    turn (start .args .trace .now) (turned .loop .at) _ (read .event-at-front .ensures) (omega arith) _ _ (whole .read .given .1)
+    turn (turned .before .before .before .args .trace .now) (turned .loop .at) (omega arith) _ _ (front read ∙ whole .read .given .1)
     _ _ _ _ _ _ _ _ (inv .1) (inv .2) (c .before .before .before .happen .ensures) in
     (after .0 ∙ inv .0, after .1, after .2, after .3 ∙ inv .3)
 

@@ -2,36 +2,25 @@
 -- Assumes nothing.
 use mathlib.Core.Path.{sym, _∙_}
 use borrow.Author.Needs.{needs}
-use Rattle.model.specs.RefusalsLaws.{acceptable}
-use Rattle.machine.proofs.Exits.{node-tests, tests-refused, tests-unlike, tests-last}
+use Rattle.model.specs.RefusalsLaws.{then-left, acceptable}
+use Rattle.machine.proofs.Exits.{node-tests, tests-refused, tests-last}
 use Rattle.machine.proofs.verdict.node_verdict.Statement.{statement}
 use Rattle.machine.proofs.verdict.node_verdict.Tie as tie
 
 well-formed-requires : tie.Need-well-formed-requires
 well-formed-requires c κs =
-    let at-enum-told = c .before .before in
-    let at-acceptable = at-enum-told .before .before in
-    let a = at-acceptable .before .before .args in
-    acceptable (a .m) (a .g) (sym (at-acceptable .acceptable .ensures) ∙ at-enum-told .enum-told .given .1) .few
+    let at-lent = c .before .before in
+    let a = at-lent .before .before .args in
+    acceptable (a .m) (a .g) (then-left _ _ (sym (at-lent .lent .ensures) ∙ c .enum-told .given .1)) .few
 
 returns : tie.Need-returns
-returns c = tests-refused _ _ _ _ (node-tests _ _ _ _) (c .before .before .before .acceptable .ensures) (c .before .verdict .given .1)
+returns c = tests-refused _ _ _ _ (node-tests _ _ _ _) (c .before .before .before .lent .ensures) (c .before .verdict .given .1)
 
 returns-2 : tie.Need-returns-2
 returns-2 c =
-    let at-if1 = c .before .before in
-    let at-enum-told = at-if1 .before .before in
-    tests-last _ _ _ _ (node-tests _ _ _ _)
-    (at-enum-told .before .before .acceptable .ensures) (at-enum-told .enum-told .given .1)
-    (at-if1 .before .as-long .ensures) (at-if1 .if1 .taken)
+    let told = c .before .before in
+    tests-last _ _ _ _ (node-tests _ _ _ _) (told .before .before .lent .ensures) (told .enum-told .given .1)
     (c .check .ensures ∙ rw (c .before .well-formed .ensures))
-
-returns-3 : tie.Need-returns-3
-returns-3 c =
-    let at-enum-told = c .before .before in
-    tests-unlike _ _ _ _ (node-tests _ _ _ _)
-    (at-enum-told .before .before .acceptable .ensures) (at-enum-told .enum-told .given .1)
-    (c .before .as-long .ensures) (c .if1 .left)
 
 pub node-verdict-spec : {M : Type 1} → statement M
 node-verdict-spec =
@@ -40,9 +29,7 @@ node-verdict-spec =
     (λ c κs. search needs)
     (λ c. search needs)
     (λ c. search needs)
-    (λ c κs. search needs)
     well-formed-requires
     (λ c κs. search needs)
     returns
-    returns-2
-    returns-3)
+    returns-2)

@@ -9,6 +9,7 @@ use borrow.Author.Tests.{not-true, not-false}
 use native.Mathlib.Omega.{arith}
 use Rattle.model.specs.Map.{most}
 use Rattle.model.specs.Refusals.{clear}
+use Rattle.model.specs.LoopLaws.{spent}
 use Rattle.model.specs.TestLaws.{and-pass, and-stop}
 use Rattle.rights.proofs.Turns.{clear-turn}
 use Rattle.rights.proofs.domain.clear.Statement.{statement}
@@ -22,24 +23,19 @@ abbrev μ-loop : tie.MeasureT-loop
 
 loop-again : tie.Need-loop-again Inv-loop μ-loop
 loop-again c =
-    let at-before = c .before .before .before in
-    let at-loop = c .before .before .before .before in
-    let l = at-loop .loop in
+    let l = c .before .before .before .before .loop in
     (omega arith, sym (clear-turn _ _ (l .n) (omega arith) ∙ and-pass _ (c .before .free-of .ensures) (not-false _ (c .if1 .left))) ∙ l .inv .1)
 
 returns : tie.Need-returns Inv-loop μ-loop
 returns c =
-    let at-before = c .before .before .before in
-    let at-loop = c .before .before .before .before in
-    let l = at-loop .loop in
+    let l = c .before .before .before .before .loop in
     sym (and-stop _ (c .before .free-of .ensures) (not-true _ (c .if1 .taken))) ∙ sym (clear-turn _ _ (l .n) (omega arith)) ∙ l .inv .1
 
 returns-2 : tie.Need-returns-2 Inv-loop μ-loop
 unfolding clear
 returns-2 c =
-    let l = c .before .before .before .loop in
-    let e : l .n ≡ 0 = omega arith in
-    ap not (c .overlaps .ensures) ∙ rw e at (l .inv .1)
+    let done = c .before .before in
+    ap not (c .overlaps .ensures) ∙ spent (clear _ _) (done .before .loop .inv .1) (done .loop-test .left)
 
 pub clear-spec : {M : Type 1} → statement M
 clear-spec =

@@ -1,12 +1,13 @@
 -- `rights::domain::domains_verdict` meets its contract. The loop's invariant: the domains from i on decide as all do. The
 -- measure is the number of domains left.
 -- Assumes nothing.
-use Prim.Native.Nat.{_+_, _-_, _≤_}
+use Prim.Native.Nat.{_-_, _≤_}
 use mathlib.Core.Path.{_≡_, sym, _∙_}
 use borrow.Author.Needs.{needs}
 use native.Mathlib.Nat.{sub-zero}
 use native.Mathlib.Omega.{arith}
 use Rattle.model.specs.Refusals.{domains-verdict}
+use Rattle.model.specs.LoopLaws.{fewer, passed}
 use Rattle.model.specs.TestLaws.{then-pass, then-stop}
 use Rattle.rights.proofs.Turns.{domains-turn}
 use Rattle.rights.proofs.domain.domains_verdict.Statement.{statement}
@@ -21,12 +22,11 @@ abbrev μ-loop : tie.MeasureT-loop
 loop-again : tie.Need-loop-again Inv-loop μ-loop
 loop-again c =
     let l = c .before .before .before .before .before .loop in
-    let n = c .before .before .before .before .before .before .args .t1 .count in
-    let e : n - l .i - 1 ≡ n - (l .i + 1) = omega arith in (
+    let n = c .before .before .before .before .before .before .args .t1 .count in (
       omega arith,
       sym (domains-turn _ (l .i) (n - l .i) (omega arith)
           ∙ then-pass _ (sym (c .before .before .domain-verdict .ensures) ∙ c .enum-told .given .1)
-          ∙ rw e) ∙ l .inv .1,
+          ∙ rw fewer) ∙ l .inv .1,
     )
 
 returns : tie.Need-returns Inv-loop μ-loop
@@ -38,10 +38,7 @@ returns c =
 
 returns-2 : tie.Need-returns-2 Inv-loop μ-loop
 unfolding domains-verdict
-returns-2 c =
-    let l = c .before .loop in
-    let e : c .before .before .args .t1 .count - l .i ≡ 0 = omega arith in
-    rw e at (l .inv .1)
+returns-2 c = passed (domains-verdict _ _) (c .before .loop .inv .1) (c .loop-test .left)
 
 pub domains-verdict-spec : {M : Type 1} → statement M
 domains-verdict-spec =

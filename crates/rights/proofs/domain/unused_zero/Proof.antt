@@ -8,6 +8,7 @@ use borrow.Author.Needs.{needs}
 use native.Mathlib.Omega.{arith}
 use Rattle.model.specs.Map.{most}
 use Rattle.model.specs.Refusals.{unused-zero}
+use Rattle.model.specs.LoopLaws.{spent}
 use Rattle.model.specs.TestLaws.{and-pass, and-stop}
 use Rattle.rights.proofs.Turns.{unused-turn}
 use Rattle.rights.proofs.domain.unused_zero.Statement.{statement}
@@ -21,26 +22,19 @@ abbrev μ-loop : tie.MeasureT-loop
 
 loop-again : tie.Need-loop-again Inv-loop μ-loop
 loop-again c =
-    let at-before = c .before .before .before in
-    let at-loop = c .before .before .before .before in
-    let l = at-loop .loop in (
+    let l = c .before .before .before .before .loop in (
       omega arith,
       sym (unused-turn _ (l .n) (omega arith) ∙ and-pass _ refl (ap not (rw (c .before .zero-domain .ensures) at (c .if1 .left)))) ∙ l .inv .1,
     )
 
 returns : tie.Need-returns Inv-loop μ-loop
 returns c =
-    let at-before = c .before .before .before in
-    let at-loop = c .before .before .before .before in
-    let l = at-loop .loop in
+    let l = c .before .before .before .before .loop in
     sym (unused-turn _ (l .n) (omega arith) ∙ and-stop _ refl (ap not (rw (c .before .zero-domain .ensures) at (c .if1 .taken)))) ∙ l .inv .1
 
 returns-2 : tie.Need-returns-2 Inv-loop μ-loop
 unfolding unused-zero
-returns-2 c =
-    let l = c .before .loop in
-    let e : l .n ≡ 0 = omega arith in
-    rw e at (l .inv .1)
+returns-2 c = spent (unused-zero _) (c .before .loop .inv .1) (c .loop-test .left)
 
 pub unused-zero-spec : {M : Type 1} → statement M
 unused-zero-spec =

@@ -1,6 +1,5 @@
 -- `rights::domain::zero_domain` meets its contract. It makes the definition's three tests.
 -- Assumes nothing.
-use borrow.Author.Needs.{needs}
 use Rattle.model.specs.Refusals.{zero-domain}
 use Rattle.rights.proofs.domain.zero_domain.Statement.{statement}
 use Rattle.rights.proofs.domain.zero_domain.Tie as tie
@@ -10,4 +9,4 @@ unfolding zero-domain
 returns c = rw (c .before .zero-region2 .ensures, c .before .before .zero-region .ensures)
 
 pub zero-domain-spec : {M : Type 1} → statement M
-zero-domain-spec = tie.close (tie.spec (λ c κs. search needs) (λ c κs. search needs) returns)
+zero-domain-spec = tie.close (search (tie.spec, returns))

@@ -4,6 +4,7 @@ use Prim.Native.Nat.{_≤_}
 use mathlib.Core.Path.{_≡_, refl, sym, _∙_}
 use borrow.Author.Needs.{needs}
 use native.Mathlib.Omega.{arith}
+use Rattle.model.specs.LoopLaws.{spent}
 use Rattle.model.specs.States.{any-ready}
 use Rattle.states.proofs.Turns.{any-found, any-on}
 use Rattle.states.proofs.good.any_ready.Statement.{statement}
@@ -27,10 +28,7 @@ loop-again c =
 
 returns-2 : tie.Need-returns-2 Inv-loop μ-loop
 unfolding any-ready
-returns-2 c =
-    let l = c .before .loop in
-    let e : l .n ≡ 0 = omega arith in
-    rw e at (l .inv .1)
+returns-2 c = spent (any-ready _) (c .before .loop .inv .1) (c .loop-test .left)
 
 pub any-ready-spec : {M : Type 1} → statement M
 any-ready-spec =

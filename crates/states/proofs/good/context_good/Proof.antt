@@ -1,6 +1,5 @@
 -- `states::good::context_good` meets its contract. It is the definition's two tests.
 -- Assumes nothing.
-use borrow.Author.Needs.{needs}
 use Rattle.model.specs.States.{context-good}
 use Rattle.states.proofs.good.context_good.Statement.{statement}
 use Rattle.states.proofs.good.context_good.Tie as tie
@@ -10,4 +9,4 @@ unfolding context-good
 returns c = rw (c .before .before .is-waiting .ensures, c .box-good .ensures)
 
 pub context-good-spec : {M : Type 1} → statement M
-context-good-spec = tie.close (tie.spec (λ c κs. search needs) (λ c κs. search needs) returns)
+context-good-spec = tie.close (search (tie.spec, returns))

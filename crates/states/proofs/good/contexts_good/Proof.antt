@@ -7,6 +7,7 @@ use borrow.Author.Needs.{needs}
 use borrow.Author.Tests.{not-true, not-false}
 use native.Mathlib.Omega.{arith}
 use Rattle.model.specs.Map.{most}
+use Rattle.model.specs.LoopLaws.{spent}
 use Rattle.model.specs.States.{contexts-good}
 use Rattle.model.specs.TestLaws.{and-pass, and-stop}
 use Rattle.states.proofs.Turns.{contexts-turn}
@@ -33,10 +34,7 @@ loop-again c =
 
 returns-2 : tie.Need-returns-2 Inv-loop μ-loop
 unfolding contexts-good
-returns-2 c =
-    let l = c .before .loop in
-    let e : l .n ≡ 0 = omega arith in
-    rw e at (l .inv .1)
+returns-2 c = spent (contexts-good _ _) (c .before .loop .inv .1) (c .loop-test .left)
 
 pub contexts-good-spec : {M : Type 1} → statement M
 contexts-good-spec =

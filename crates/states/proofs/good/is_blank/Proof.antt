@@ -1,6 +1,5 @@
 -- `states::good::is_blank` meets its contract. It is the definition's five tests.
 -- Assumes nothing.
-use borrow.Author.Needs.{needs}
 use Rattle.model.specs.States.{is-blank}
 use Rattle.states.proofs.good.is_blank.Statement.{statement}
 use Rattle.states.proofs.good.is_blank.Tie as tie
@@ -10,4 +9,4 @@ unfolding is-blank
 returns c = rw (c .before .before .before .before .zeros .ensures, c .before .before .is-halted .ensures, c .box-good .ensures)
 
 pub is-blank-spec : {M : Type 1} → statement M
-is-blank-spec = tie.close (tie.spec (λ c κs. search needs) (λ c κs. search needs) (λ c κs. search needs) returns)
+is-blank-spec = tie.close (search (tie.spec, returns))

@@ -4,6 +4,7 @@ use Prim.Native.Nat.{_≤_}
 use mathlib.Core.Path.{_≡_, refl, sym, _∙_}
 use native.Mathlib.Omega.{arith}
 use borrow.Author.Tests.{eq-eqb, ne-eqb}
+use Rattle.model.specs.LoopLaws.{spent}
 use Rattle.model.specs.States.{zeros}
 use Rattle.model.specs.TestLaws.{and-pass, and-stop}
 use Rattle.states.proofs.Turns.{zeros-turn}
@@ -28,10 +29,7 @@ loop-again c =
 
 returns-2 : tie.Need-returns-2 Inv-loop μ-loop
 unfolding zeros
-returns-2 c =
-    let l = c .before .loop in
-    let e : l .n ≡ 0 = omega arith in
-    rw e at (l .inv .1)
+returns-2 c = spent (zeros _) (c .before .loop .inv .1) (c .loop-test .left)
 
 pub zeros-spec : {M : Type 1} → statement M
 zeros-spec =

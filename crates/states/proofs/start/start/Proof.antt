@@ -1,12 +1,13 @@
 -- `states::start::start` meets its contract. The loop's invariant: the domains from i on, put into the contexts as they are, come
 -- to what all of them come to. The measure is the number of domains left.
 -- Assumes nothing.
-use Prim.Native.Nat.{_+_, _-_, _≤_}
+use Prim.Native.Nat.{_-_, _≤_}
 use mathlib.Core.Path.{_≡_, refl, sym, _∙_}
 use borrow.Author.Needs.{needs}
 use native.Mathlib.Nat.{sub-zero}
 use native.Mathlib.Omega.{arith}
 use lib.ListN.{replicate}
+use Rattle.model.specs.LoopLaws.{fewer}
 use Rattle.model.specs.Map.{most}
 use Rattle.model.specs.States.{blank, seated}
 use Rattle.states.proofs.Turns.{seated-turn, seated-all}
@@ -27,11 +28,10 @@ loop-again : tie.Need-loop-again Inv-loop μ-loop
 loop-again c =
     let at-loop = c .before .before .before in
     let l = at-loop .loop in
-    let n = at-loop .before .before .args .t1 .count in
-    let e : n - l .i - 1 ≡ n - (l .i + 1) = omega arith in (
+    let n = at-loop .before .before .args .t1 .count in (
       omega arith,
       l .inv .1,
-      rw (c .fresh .ensures) (sym (seated-turn _ _ (l .i) (n - l .i) (omega arith) ∙ rw e) ∙ l .inv .2),
+      rw (c .fresh .ensures) (sym (seated-turn _ _ (l .i) (n - l .i) (omega arith) ∙ rw fewer) ∙ l .inv .2),
     )
 
 returns : tie.Need-returns Inv-loop μ-loop
