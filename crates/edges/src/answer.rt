@@ -13,31 +13,24 @@ use model::state::Status;
 
 fn reason(r: Reason) {
     match r {
-        Reason::Fetch(a) => wide(b" fetch ", a),
-        Reason::Read(a) => wide(b" read ", a),
-        Reason::Write(a) => wide(b" write ", a),
-        Reason::Kind(b) => small(b" kind ", b),
-        Reason::Register(b) => small(b" register ", b),
-        Reason::Channel(b) => small(b" channel ", b),
+        Reason::Fetch(a) => wide(b", faulted fetch ", a),
+        Reason::Read(a) => wide(b", faulted read ", a),
+        Reason::Write(a) => wide(b", faulted write ", a),
+        Reason::Kind(b) => small(b", faulted kind ", b),
+        Reason::Register(b) => small(b", faulted register ", b),
+        Reason::Channel(b) => small(b", faulted channel ", b),
     }
 }
 
-fn faulted(d: u8, r: Reason) {
-    small(b"faulted ", d);
-    reason(r);
-}
-
+// What a call answers in these cases. The others are told by the program's lines.
 fn answer(a: Answer) {
     match a {
         Answer::Idle => word(b"idle"),
         Answer::Ran(d) => small(b"ran ", d),
-        Answer::Waits(d) => small(b"waits ", d),
-        Answer::Halted(d) => small(b"halted ", d),
-        Answer::Faulted(d, r) => faulted(d, r),
         Answer::Switched(d) => small(b"switched ", d),
         Answer::Taken(d) => small(b"taken ", d),
-        Answer::Full(d) => small(b"full ", d),
         Answer::NoDomain(b) => small(b"no domain ", b),
+        _ => word(b"another answer"),
     }
 }
 
@@ -48,17 +41,12 @@ pub fn reply(r: Reply) {
     }
 }
 
-fn reason_after(r: Reason) {
-    word(b", faulted");
-    reason(r);
-}
-
 fn status(s: Status) {
     match s {
         Status::Ready => word(b", ready"),
         Status::Waiting => word(b", waiting"),
         Status::Halted => word(b", halted"),
-        Status::Faulted(r) => reason_after(r),
+        Status::Faulted(r) => reason(r),
     }
 }
 
@@ -72,14 +60,11 @@ fn mailbox(b: Mailbox) {
 }
 
 fn registers(r: [u32; 8]) {
-    named(b", registers ", r[0]);
-    named(b" ", r[1]);
-    named(b" ", r[2]);
-    named(b" ", r[3]);
-    named(b" ", r[4]);
-    named(b" ", r[5]);
-    named(b" ", r[6]);
-    named(b" ", r[7]);
+    let mut i = 0;
+    while i < 8 {
+        named(b" ", r[i]);
+        i += 1;
+    }
 }
 
 // A domain's part of the state.
@@ -88,6 +73,7 @@ pub fn context(c: Context) {
     let s = c.status;
     let b = c.mailbox;
     named(b" at ", c.counter);
+    word(b", registers");
     registers(r);
     status(s);
     mailbox(b);

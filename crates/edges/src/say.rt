@@ -1,4 +1,4 @@
-// What is written to standard output, piece by piece: a line per case, its name, a colon, and what came out.
+// What is written to standard output, piece by piece.
 use crate::table::find;
 use crate::table::part;
 use crate::table::past;
@@ -8,16 +8,6 @@ use model::refusal::Refusal;
 
 pub fn word(w: &[u8]) {
     io::write_all(1, w);
-}
-
-// The front of a case's line.
-pub fn begin(name: &[u8]) {
-    word(name);
-    word(b": ");
-}
-
-pub fn end() {
-    word(b"\n");
 }
 
 // A word and its number.
@@ -43,6 +33,12 @@ pub fn refusal(r: Refusal) {
     named(b"", refusal_number(r));
 }
 
+// "as '12 at 7'"
+pub fn refused_at(r: Refusal, at: usize) {
+    refusal(r);
+    size(b" at ", at);
+}
+
 pub fn verdict(v: Verdict) {
     match v {
         Verdict::Accepted => word(b"accepted"),
@@ -62,7 +58,7 @@ fn piece(lines: &[u8], from: usize) -> usize {
 }
 
 // The lines of a transcript in one line. There are no more of them than bytes.
-fn joined(lines: &[u8]) {
+pub fn joined(lines: &[u8]) {
     let mut from = 0;
     let mut i = 0;
     while i < lines.len() {
@@ -72,9 +68,4 @@ fn joined(lines: &[u8]) {
         from = piece(lines, from);
         i += 1;
     }
-}
-
-// The first n bytes of a buffer that lines were made in.
-pub fn front(buffer: &[u8], n: usize) {
-    joined(part(buffer, 0, n));
 }

@@ -1,4 +1,4 @@
-// The cases' table: a line per case, fields with a semicolon between two of them.
+// The cases' table: a line per case, fields with a semicolon between two of them, and in a field numbers with a space between two.
 pub fn part(text: &[u8], from: usize, to: usize) -> &[u8] {
     if to <= text.len() {
         if from <= to {
@@ -28,13 +28,29 @@ pub fn past(text: &[u8], at: usize) -> usize {
     at
 }
 
-// Field k, from 0 on.
-pub fn field(line: &[u8], k: usize) -> &[u8] {
+// Piece k, from 0 on, where byte b stands between two of them.
+fn piece(text: &[u8], b: u8, k: usize) -> &[u8] {
     let mut from = 0;
     let mut i = 0;
     while i < k {
-        from = past(line, find(line, b';', from));
+        from = past(text, find(text, b, from));
         i += 1;
     }
-    part(line, from, find(line, b';', from))
+    part(text, from, find(text, b, from))
+}
+
+pub fn field(line: &[u8], k: usize) -> &[u8] {
+    piece(line, b';', k)
+}
+
+pub fn item(text: &[u8], k: usize) -> &[u8] {
+    piece(text, b' ', k)
+}
+
+// The first byte, and 0 for no text.
+pub fn first(text: &[u8]) -> u8 {
+    if 0 < text.len() {
+        return text[0];
+    }
+    0
 }

@@ -1,11 +1,11 @@
--- `edges::put::number` is safe and ends. The measure is how many digits are left.
+-- `edges::numbers::number` is safe and ends. The measure is how many digits are left.
 -- Assumes nothing.
 use Prim.Native.Nat.{_-_, _≤_}
 use native.Mathlib.Omega.{arith}
 use lib.ListN.{length}
 use borrow.Author.Needs.{needs}
-use Rattle.edges.proofs.put.number.Statement.{statement}
-use Rattle.edges.proofs.put.number.Tie as tie
+use Rattle.edges.proofs.numbers.number.Statement.{statement}
+use Rattle.edges.proofs.numbers.number.Tie as tie
 
 abbrev Inv-loop : tie.InvT-loop
 Inv-loop text n₀ i₀ n i = i ≤ length text
