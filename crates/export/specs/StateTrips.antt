@@ -66,7 +66,7 @@ flag-again false = refl
 small : (n : ℕ) → n < 256 → n % 256 ≡ n
 small n h = omega arith
 
-eight-again : {A : Type 0} (xs : List A) (d : A) → length xs ≡ 8 → eight (λ i. getD xs i d) ≡ xs
+pub eight-again : {A : Type 0} (xs : List A) (d : A) → length xs ≡ 8 → eight (λ i. getD xs i d) ≡ xs
 eight-again (a ∷ b ∷ c ∷ d ∷ e ∷ f ∷ g ∷ h ∷ []) z l = refl
 eight-again [] z l = absurd (omega arith)
 eight-again (a ∷ []) z l = absurd (omega arith)
@@ -116,7 +116,7 @@ unfolding alike
 alike-self xs zero = refl
 alike-self xs (suc n) = rw (eq-eqb (getD xs n 0) (getD xs n 0) refl) (alike-self xs n)
 
-eight-same : {A : Type 0} (f g : ℕ → A) → ((i : ℕ) → i < 8 → f i ≡ g i) → eight f ≡ eight g
+pub eight-same : {A : Type 0} (f g : ℕ → A) → ((i : ℕ) → i < 8 → f i ≡ g i) → eight f ≡ eight g
 eight-same f g e =
     rw (
       e 0 (omega arith),

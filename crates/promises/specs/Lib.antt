@@ -10,7 +10,11 @@
 --     Batches     a batch's number
 --     Traces      a broken record keeps the events before it
 --     Sheets      read after write, write after read, the length
+--     Trips       the same of the calls
 --     Texts       what the program prints: the paper's nine lines, and how long a text is
+--     Public      the public calls, and that two returns that meet a contract are one
+--     Tests       what each call tests, in the paper's order; Ruled: laws of these
+--     Refused     which refusal a call gives, and that it changes nothing
 --     Met         the premises can be met
 pub mod CaseL
 pub mod Edges
@@ -25,4 +29,8 @@ pub mod Traces
 pub mod Sheets
 pub mod Texts
 pub mod Trips
+pub mod Public
+pub mod Tests
+pub mod Ruled
+pub mod Refused
 pub mod Met

@@ -6,7 +6,7 @@ use mathlib.Core.Bool.{Bool, true, _&&_}
 use mathlib.Core.List.{List, [], _∷_}
 use native.Mathlib.Omega.{arith}
 use lib.Dec.{leb, ltb}
-use lib.ListN.{replicate}
+use lib.ListN.{replicate, take}
 use borrow.Author.Tests.{ltb-true, leb-true}
 use Rattle.model.specs.BasicsLaws.{by-bool, and-left, and-right}
 use Rattle.model.specs.Map.{region, absent, inside, Grid, no-grid, domain, is-domain, may, granted}
@@ -14,11 +14,15 @@ use Rattle.model.specs.MapLaws.{inside-from, inside-below, inside-between}
 use Rattle.model.specs.Sheet.{mark, sheet-bytes}
 use Rattle.model.specs.GridLaws.{Shaped, no-grid-square, mark-square}
 use Rattle.model.specs.RecordLaws.{Octets}
+use Rattle.model.specs.States.{start}
 use Rattle.model.specs.Whole.{whole}
 use Rattle.model.specs.declared.map.Domain.{Domain}
 use Rattle.model.specs.declared.map.Map.{Map}
 use Rattle.model.specs.declared.map.Access.{Access}
-use Rattle.promises.specs.CaseL.{one, L-map, L-grid, L-acceptable}
+use Rattle.model.specs.declared.event.Event.{Event}
+use Rattle.promises.specs.CaseL.{one, L-map, L-grid, L-memory, L-acceptable}
+use Rattle.promises.specs.Public.{Call}
+use Rattle.promises.specs.Tests.{Ruling, ruling, tests}
 use Rattle.promises.specs.Wider.{Wider}
 
 one-or-two : (P : ℕ → Type 0) → P 1 → P 2 → (d : ℕ) → 1 ≤ d → d ≤ 2 → P d
@@ -91,3 +95,19 @@ octets (b ∷ rest) e (suc i) = octets rest (and-right (ltb b 256) _ e) i
 pub L-octets : Octets (sheet-bytes L-map L-grid)
 unfolding whole below-256
 L-octets = octets (sheet-bytes L-map L-grid) refl
+
+-- ---- a call that passes all its tests, and calls that do not
+
+abbrev step-on : List ℕ → Call
+step-on memory = Call.happening L-map L-grid (start L-map) memory Event.Step
+
+abbrev cut : ℕ → Call
+cut n = Call.reading (take n (sheet-bytes L-map L-grid))
+
+pub L-ruled :
+    (ruling (tests (step-on L-memory)) ≡ Ruling.accepted)
+    × (ruling (tests (step-on (take 255 L-memory))) ≡ Ruling.refused 9 0)
+    × (ruling (tests (cut 60)) ≡ Ruling.accepted)
+    × (ruling (tests (cut 59)) ≡ Ruling.refused 1 59)
+unfolding whole
+L-ruled = (refl, refl, refl, refl)

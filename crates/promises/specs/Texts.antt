@@ -1,5 +1,6 @@
 -- Document 01, "The program": what it prints.
 --     L-prints             Case L's nine lines
+--     reason-printed       a fault's reason and its number
 --     transcript-length    a text has at most 80 bytes for each byte of its trace and 80 more: a buffer of that length holds it
 -- Assumes nothing.
 use Prim.Native.Nat.{ℕ, zero, suc, _+_, _*_, _/_, _%_, _≤_}
@@ -11,11 +12,11 @@ use lib.ListN.{length, drop, length-append}
 use Rattle.model.specs.BasicsLaws.{by-bool}
 use Rattle.model.specs.Map.{Grid}
 use Rattle.model.specs.Sheet.{Found, sheet-bytes, sheet-read}
-use Rattle.model.specs.States.{start}
+use Rattle.model.specs.States.{reason-number, start}
 use Rattle.model.specs.Refusals.{refusal-number}
 use Rattle.model.specs.Events.{event, event-read, run, Trace, next, trace, trace-of}
 use Rattle.model.specs.Calls.{as-long}
-use Rattle.model.specs.Program.{words, digit, figures, reason-text, answer-text, event-line, event-lines, active-line, refusal-line, refusal-at-line, close-line, of-trace, unless-refused, of-sheet, transcript}
+use Rattle.model.specs.Program.{words, digit, figures, decimal, reason-text, answer-text, event-line, event-lines, active-line, refusal-line, refusal-at-line, close-line, of-trace, unless-refused, of-sheet, transcript}
 use Rattle.model.specs.Whole.{whole}
 use Rattle.model.specs.declared.map.Map.{Map}
 use Rattle.model.specs.declared.state.Reason.{Reason}
@@ -33,6 +34,24 @@ pub L-prints :
     ≡ words "1 ran 1\n2 faulted 1 write 128\n3 waits 2\n4 idle\n5 taken 2\n6 ran 2\n7 halted 2\n8 idle\nactive 0\n"
 unfolding whole
 L-prints = refl
+
+-- "for a fault the reason and its number"
+abbrev reason-word : Reason → List ℕ
+reason-word (Reason.Fetch a) = words "fetch "
+reason-word (Reason.Read a) = words "read "
+reason-word (Reason.Write a) = words "write "
+reason-word (Reason.Kind b) = words "kind "
+reason-word (Reason.Register b) = words "register "
+reason-word (Reason.Channel b) = words "channel "
+
+pub reason-printed : (r : Reason) → reason-text r ≡ reason-word r ++ decimal (reason-number r)
+unfolding reason-text
+reason-printed (Reason.Fetch a) = refl
+reason-printed (Reason.Read a) = refl
+reason-printed (Reason.Write a) = refl
+reason-printed (Reason.Kind b) = refl
+reason-printed (Reason.Register b) = refl
+reason-printed (Reason.Channel b) = refl
 
 -- ---- how long a text is
 

@@ -1,17 +1,21 @@
 -- Demand 1, "A trace with a broken record keeps the events before it, no more."
 --     events-before     bytes that spell events, and then others, read as those events and then as the others do
 --     broken-after      so where a broken record comes next, the events are those before it, and the offset is that record's
+--     broken-numbers    a broken record's number is 11 or 12, and so is that of a trace that closes broken
 -- Assumes nothing.
-use Prim.Native.Nat.{ℕ, _+_, _^_, _<_}
+use Prim.Native.Nat.{ℕ, zero, suc, _+_, _^_, _<_}
 use mathlib.Core.Path.{_≡_, refl, sym, ap, _∙_}
+use mathlib.Core.Logic.{_⊎_, inl, inr}
 use mathlib.Core.List.{List, [], _∷_, _++_}
 use native.Mathlib.Nat.{add-zero, zero-add}
 use native.Mathlib.Omega.{arith}
-use lib.ListN.{length}
+use lib.Dec.{leb, eqb}
+use lib.ListN.{length, drop}
 use borrow.Author.Tests.{le-leb}
 use Rattle.model.specs.Basics.{bytes}
-use Rattle.model.specs.BasicsLaws.{number-bytes}
-use Rattle.model.specs.Events.{Trace, ended, follow, event-read, trace-of}
+use Rattle.model.specs.BasicsLaws.{number-bytes, either}
+use Rattle.model.specs.Refusals.{refusal-number}
+use Rattle.model.specs.Events.{Trace, ended, follow, event-read, next, trace, trace-of}
 use Rattle.model.specs.TraceLaws.{trace-whole, trace-broken}
 use Rattle.model.specs.declared.event.Event.{Event}
 use Rattle.model.specs.declared.event.EventRead.{EventRead}
@@ -76,3 +80,38 @@ broken-after es b tail r h e =
     ∙ ap (followed es) (trace-broken _ b tail r e)
     ∙ ap (λ n. followed es (ended (Close.Broken r n))) (zero-add (length (trace-bytes es)))
     ∙ followed-events es _
+
+-- "Playing a trace stops at its first broken record with 11 or 12"
+abbrev Number : EventRead → Type 0
+Number (EventRead.Whole e n) = Unit {0}
+Number (EventRead.Broken r) = (refusal-number r ≡ 11) ⊎ (refusal-number r ≡ 12)
+
+read-number : (s : List ℕ) → Number (event-read s)
+unfolding event-read
+read-number [] = inr refl
+read-number (k ∷ s) =
+    either Number (eqb k 1) tt
+    (either Number (eqb k 2) tt (either Number (eqb k 3) (either Number (leb 6 (length (k ∷ s))) tt (inr refl)) (inl refl)))
+
+-- done or broken, and never refused: a refusal is the call's
+abbrev pub Closing : Close → Type 0
+Closing Close.Done = Unit {0}
+Closing (Close.Broken r at) = (refusal-number r ≡ 11) ⊎ (refusal-number r ≡ 12)
+Closing (Close.Refused r) = ⊥
+
+next-number :
+    (at : ℕ) (x : EventRead) (go : ℕ → Trace) → Number x → ((n : ℕ) → Closing (go n .close)) → Closing (next at x go .close)
+next-number at (EventRead.Whole e n) go h f = f n
+next-number at (EventRead.Broken r) go h f = h
+
+pub trace-number : (rounds at : ℕ) (s : List ℕ) → Closing (trace rounds at s .close)
+unfolding trace
+trace-number zero at s = tt
+trace-number (suc rounds) at [] = tt
+trace-number (suc rounds) at (b ∷ s) =
+    next-number at (event-read (b ∷ s)) _ (read-number (b ∷ s)) (λ n. trace-number rounds (at + n) (drop n (b ∷ s)))
+
+pub broken-numbers :
+    (at : ℕ) (s : List ℕ) (r : Refusal) (x : ℕ) → trace-of at s .close ≡ Close.Broken r x
+    → (refusal-number r ≡ 11) ⊎ (refusal-number r ≡ 12)
+broken-numbers at s r x e = rw e at (trace-number (length s) at s)
