@@ -2,8 +2,8 @@
 
    A block below is plain 32-bit numbers, so a struct of them is the block. No function asks its caller to have looked first: every
    block, memory, trace, buffer and number gets an answer. A function returns document 01's refusal number, or 0 where nothing is
-   refused. A refused call sets no byte of memory, buffer, state or answer, and its counts (*wrote, *begin, *length, *events, *at, *steps)
-   are 0; a refused start gives active 0 with every context zero and halted, and a refused reading a map of zeros, a grid of zeros and the
+   refused. A refused call sets no byte of memory, buffer, state or answer and leaves *yes, and its counts (*wrote, *begin, *length, *events,
+   *at, *steps) are 0; a refused start gives active 0 with every context zero and halted, and a refused reading a map of zeros, a grid of zeros and the
    offset. Pointers are valid, and lent parts do not overlap: that is what C leaves to its caller. */
 #ifndef ARCOVINDA_H
 #define ARCOVINDA_H
@@ -29,8 +29,8 @@ enum arcovinda_status {
     ARCOVINDA_FETCH, ARCOVINDA_READ, ARCOVINDA_WRITE, ARCOVINDA_KIND, ARCOVINDA_REGISTER, ARCOVINDA_CHANNEL
 };
 
-/* number: the address or the byte of a fault, 0 for the other statuses. full: 0 or 1. A block that no state is written as, one with status 9 say, is
-   refused with 13. */
+/* number: the address or the byte of a fault, 0 for the other statuses. full: 0 or 1. A block that no state is written as is refused with 13:
+   one with status 9, say, or with a register fault of 256, which is no byte. */
 struct arcovinda_context {
     uint32_t registers[8], counter, status, number_low, number_high, full, word, sender;
 };
@@ -50,13 +50,14 @@ struct arcovinda_answer {
     uint32_t kind, domain, reason, number_low, number_high;
 };
 
-/* Bytes to a map and its grid; *at is the offset of the refused record, 0 where none is. */
+/* Bytes to a map and its grid. *at is where reading stopped, 0 where nothing is refused: the offset of the refused record's kind byte, for 8 of
+   the first byte after the sheet, for a missing kind byte the sheet's length. */
 uint32_t arcovinda_read(const uint8_t *sheet, size_t sheet_length, struct arcovinda_map *map, arcovinda_grid *grid, uint64_t *at);
 
 /* A map and its grid to bytes; *wrote is how many. */
 uint32_t arcovinda_write(const struct arcovinda_map *map, const arcovinda_grid *grid, uint8_t *buffer, size_t buffer_length, uint64_t *wrote);
 
-/* The question: may the domain do this to the address; *yes is 1 or 0. */
+/* The question: may the domain do this to the address; *yes is 1 or 0, and left as it was where the question is refused. */
 uint32_t arcovinda_may_read(const struct arcovinda_map *map, const arcovinda_grid *grid, uint8_t domain, uint64_t address, uint32_t *yes);
 uint32_t arcovinda_may_write(const struct arcovinda_map *map, const arcovinda_grid *grid, uint8_t domain, uint64_t address, uint32_t *yes);
 uint32_t arcovinda_may_fetch(const struct arcovinda_map *map, const arcovinda_grid *grid, uint8_t domain, uint64_t address, uint32_t *yes);
