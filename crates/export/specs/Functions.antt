@@ -19,7 +19,7 @@ use Rattle.promises.specs.Tests.{Ruling}
 use Rattle.promises.specs.Refused.{says, refusing as refused-call, unchanged}
 use Rattle.export.specs.MapWords.{map-of, map-words, grid-of, grid-bytes}
 use Rattle.export.specs.StateWords.{state-of, packed}
-use Rattle.export.specs.Reports.{reading-report, writing-report, permission-report, Viewed, viewed, started-report, Told, told, stepped-report, Counted, counted, played-report, Spent, spent, batched-report}
+use Rattle.export.specs.Reports.{writing-report, permission-report, Viewed, viewed, started-report, Told, told, stepped-report, Counted, counted, played-report, Spent, spent, batched-report}
 use Rattle.export.specs.Exports.{passed, Read, read, found, c-read, c-write, c-may, view-report, c-view, c-start, c-event, c-play, c-batch}
 
 pub data Function : Type 0 where

@@ -10,67 +10,16 @@ use mathlib.Core.Path.{_≡_, refl, sym, ap, _∙_}
 use mathlib.Core.List.{List, [], _∷_}
 use native.Mathlib.Omega.{arith}
 use lib.Dec.{leb, eqb}
-use lib.ListN.{length, getD, take, drop, length-drop, drop-of-length-le}
+use lib.ListN.{length, take, drop, length-drop, drop-of-length-le}
 use lib.Seq.{drop-cons, drop-drop}
 use borrow.Author.Tests.{leb-true}
 use borrow.Rule.Slice.PartAt.{part-to-end}
-use Rattle.model.specs.BasicsLaws.{by-bool, either}
+use Rattle.model.specs.BasicsLaws.{by-bool}
 use Rattle.model.specs.Events.{event-read, Trace, ended, follow, next, trace, trace-of}
 use Rattle.model.specs.declared.event.Event.{Event}
 use Rattle.model.specs.declared.event.EventRead.{EventRead}
 use Rattle.model.specs.declared.refusal.Refusal.{Refusal}
 use Rattle.model.specs.declared.call.Close.{Close}
-
--- an event takes a byte at least
-abbrev Takes : EventRead → Type 0
-Takes (EventRead.Whole e n) = 1 ≤ n
-Takes (EventRead.Broken r) = Unit {0}
-
-event-takes : (s : List ℕ) → Takes (event-read s)
-unfolding event-read
-event-takes [] = tt
-event-takes (kind ∷ s) =
-    either Takes (eqb kind 1) (omega arith)
-    (either Takes (eqb kind 2) (omega arith)
-    (either Takes (eqb kind 3) (either Takes (leb 6 (length (kind ∷ s))) (omega arith) tt) tt))
-
-next-alike :
-    (at : ℕ) (r : EventRead) (go go′ : ℕ → Trace) → Takes r → ((n : ℕ) → 1 ≤ n → go n ≡ go′ n) → next at r go ≡ next at r go′
-next-alike at (EventRead.Whole e n) go go′ h f = ap (follow e) (f n h)
-next-alike at (EventRead.Broken r) go go′ h f = refl
-
-pub rounds-enough : (n k at : ℕ) (s : List ℕ) → length s ≤ n → length s ≤ k → trace n at s ≡ trace k at s
-unfolding trace
-rounds-enough zero zero at s h l = refl
-rounds-enough zero (suc k) at [] h l = refl
-rounds-enough zero (suc k) at (b ∷ s) h l = absurd (omega arith)
-rounds-enough (suc n) zero at [] h l = refl
-rounds-enough (suc n) zero at (b ∷ s) h l = absurd (omega arith)
-rounds-enough (suc n) (suc k) at [] h l = refl
-rounds-enough (suc n) (suc k) at (b ∷ s) h l =
-    next-alike at (event-read (b ∷ s)) _ _ (event-takes (b ∷ s))
-    (λ i q. rounds-enough n k (at + i) (drop i (b ∷ s)) (simp length-drop (omega arith)) (simp length-drop (omega arith)))
-
--- "An empty trace is done with 0."
-pub trace-empty : (at : ℕ) → trace-of at [] ≡ ended Close.Done
-unfolding trace
-trace-empty at = refl
-
-pub trace-whole :
-    (at b : ℕ) (s : List ℕ) (e : Event) (n : ℕ) → event-read (b ∷ s) ≡ EventRead.Whole e n
-    → trace-of at (b ∷ s) ≡ follow e (trace-of (at + n) (drop n (b ∷ s)))
-unfolding trace
-trace-whole at b s e n w =
-    let h : 1 ≤ n = rw w at (event-takes (b ∷ s)) in
-    ap (λ r. next at r (λ i. trace (length s) (at + i) (drop i (b ∷ s)))) w
-    ∙ ap (follow e)
-    (rounds-enough (length s) (length (drop n (b ∷ s))) (at + n) (drop n (b ∷ s)) (simp length-drop (omega arith)) (omega arith))
-
-pub trace-broken :
-    (at b : ℕ) (s : List ℕ) (r : Refusal) → event-read (b ∷ s) ≡ EventRead.Broken r
-    → trace-of at (b ∷ s) ≡ ended (Close.Broken r at)
-unfolding trace
-trace-broken at b s r w = ap (λ x. next at x (λ i. trace (length s) (at + i) (drop i (b ∷ s)))) w
 
 -- an event takes a byte at least, and no more than there are
 abbrev Within : List ℕ → EventRead → Type 0
@@ -90,6 +39,45 @@ read-within (kind ∷ s) =
 
 whole-takes : (s : List ℕ) (e : Event) (n : ℕ) → event-read s ≡ EventRead.Whole e n → (1 ≤ n) × (n ≤ length s)
 whole-takes s e n w = rw w at (read-within s)
+
+next-alike :
+    (at : ℕ) (s : List ℕ) (r : EventRead) (go go′ : ℕ → Trace) → Within s r → ((n : ℕ) → 1 ≤ n → go n ≡ go′ n)
+    → next at r go ≡ next at r go′
+next-alike at s (EventRead.Whole e n) go go′ h f = ap (follow e) (f n (h .0))
+next-alike at s (EventRead.Broken r) go go′ h f = refl
+
+pub rounds-enough : (n k at : ℕ) (s : List ℕ) → length s ≤ n → length s ≤ k → trace n at s ≡ trace k at s
+unfolding trace
+rounds-enough zero zero at s h l = refl
+rounds-enough zero (suc k) at [] h l = refl
+rounds-enough zero (suc k) at (b ∷ s) h l = absurd (omega arith)
+rounds-enough (suc n) zero at [] h l = refl
+rounds-enough (suc n) zero at (b ∷ s) h l = absurd (omega arith)
+rounds-enough (suc n) (suc k) at [] h l = refl
+rounds-enough (suc n) (suc k) at (b ∷ s) h l =
+    next-alike at (b ∷ s) (event-read (b ∷ s)) _ _ (read-within (b ∷ s))
+    (λ i q. rounds-enough n k (at + i) (drop i (b ∷ s)) (simp length-drop (omega arith)) (simp length-drop (omega arith)))
+
+-- "An empty trace is done with 0."
+pub trace-empty : (at : ℕ) → trace-of at [] ≡ ended Close.Done
+unfolding trace
+trace-empty at = refl
+
+pub trace-whole :
+    (at b : ℕ) (s : List ℕ) (e : Event) (n : ℕ) → event-read (b ∷ s) ≡ EventRead.Whole e n
+    → trace-of at (b ∷ s) ≡ follow e (trace-of (at + n) (drop n (b ∷ s)))
+unfolding trace
+trace-whole at b s e n w =
+    let h = whole-takes (b ∷ s) e n w .0 in
+    ap (λ r. next at r (λ i. trace (length s) (at + i) (drop i (b ∷ s)))) w
+    ∙ ap (follow e)
+    (rounds-enough (length s) (length (drop n (b ∷ s))) (at + n) (drop n (b ∷ s)) (simp length-drop (omega arith)) (omega arith))
+
+pub trace-broken :
+    (at b : ℕ) (s : List ℕ) (r : Refusal) → event-read (b ∷ s) ≡ EventRead.Broken r
+    → trace-of at (b ∷ s) ≡ ended (Close.Broken r at)
+unfolding trace
+trace-broken at b s r w = ap (λ x. next at x (λ i. trace (length s) (at + i) (drop i (b ∷ s)))) w
 
 -- at bytes of a trace are read
 module _ (bytes : List ℕ) (at : ℕ) where

@@ -15,15 +15,15 @@ use Rattle.model.specs.BasicsLaws.{by-bool}
 use Rattle.model.specs.Map.{most, Grid, no-grid, nth}
 use Rattle.model.specs.Refusals.{refusal-number, check, _▸_, counted, unused-zero, sized, within, domain-verdict, domains-verdict, map-verdict, accepts}
 use Rattle.model.specs.Sheet.{Found, sheet-bytes, judged, four-or-five, finish, channels-read, domains-read, sheet-read, one-record, kernel-read, region-of, place, mark, domain-of, with-domain}
-use Rattle.model.specs.Events.{event, event-read}
-use Rattle.model.specs.Calls.{named, lent-verdict, node-verdict, reader, writer}
+use Rattle.model.specs.Events.{event-read}
+use Rattle.model.specs.Calls.{named, lent-verdict, node-verdict}
 use Rattle.model.specs.declared.map.Domain.{Domain}
 use Rattle.model.specs.declared.map.Map.{Map}
 use Rattle.model.specs.declared.state.State.{State}
 use Rattle.model.specs.declared.event.EventRead.{EventRead}
 use Rattle.model.specs.declared.refusal.Refusal.{Refusal}
 use Rattle.model.specs.declared.call.Verdict.{Verdict}
-use Rattle.promises.specs.Tests.{Test, test, present, Ruling, ruling, domain-tests, each-domain, map-tests, nine, fourteen, ten, node-tests, last-tests, channel-tests, record-tests, kernel-tests, sheet-tests, event-tests, tests}
+use Rattle.promises.specs.Tests.{Test, test, present, Ruling, ruling, domain-tests, each-domain, map-tests, nine, fourteen, ten, node-tests, last-tests, channel-tests, record-tests, kernel-tests, sheet-tests, event-tests}
 
 -- ---- what a verdict, a reading and an event's reading say
 

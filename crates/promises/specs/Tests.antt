@@ -16,7 +16,6 @@ use Rattle.model.specs.Map.{most, inside, overlaps, nth, Grid, is-domain}
 use Rattle.model.specs.Refusals.{counted, unused-zero, sized, within, clear, channels-good}
 use Rattle.model.specs.Sheet.{sheet-bytes, place, rising, region-of, domain-of, with-domain, beginning-map}
 use Rattle.model.specs.States.{well-formed}
-use Rattle.model.specs.declared.map.Region.{Region}
 use Rattle.model.specs.declared.map.Domain.{Domain}
 use Rattle.model.specs.declared.map.Map.{Map}
 use Rattle.model.specs.declared.state.State.{State}
