@@ -1,5 +1,7 @@
 // Document 01's edges, both sides of each: a line per case, its name, a colon, and what came out. The cases are the table of standard input; the
 // lines that are expected were written from the paper.
+#![tactic(auto)]
+
 mod after;
 mod answer;
 mod batches;

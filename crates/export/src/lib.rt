@@ -1,5 +1,7 @@
 // Arcovinda for C: include/arcovinda.h declares these functions and says what each is for. A block that C lends is words; each function reads
 // what the words are, makes the call, and sets what the call's result comes to. No function asks its caller to have looked first.
+#![tactic(auto)]
+
 mod answer;
 mod context;
 mod grid;

@@ -1,5 +1,7 @@
 // The instructions of one domain: decoding, the access that the rule allows, and a stretch of them that ends where one needs more
 // than its own registers and the memory.
+#![tactic(auto)]
+
 mod access;
 pub mod byte;
 mod decoding;

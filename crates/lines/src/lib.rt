@@ -1,4 +1,6 @@
 // The program's lines, in a lent buffer: everything that the program prints is made here, and what it is is proved.
+#![tactic(auto)]
+
 mod line;
 pub mod number;
 mod play;

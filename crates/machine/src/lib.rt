@@ -1,5 +1,7 @@
 // The machine: start, step, tick, word-in, one event, a trace, a batch, and the view of a domain's data. No call asks its caller to have
 // looked first: each tests what it is given, in document 01's order, and refuses with the paper's number.
+#![tactic(auto)]
+
 mod count;
 mod happen;
 mod reader;

@@ -5,14 +5,14 @@ use crate::refusal::Refusal;
 use crate::state::State;
 
 // Is it acceptable; and the companion call of the view.
-#[derive(Drop)]
+#[derive(Clone, Copy)]
 pub enum Verdict {
     Accepted,
     Refused(Refusal),
 }
 
 // The question: may domain d read, write or fetch address a.
-#[derive(Drop)]
+#[derive(Clone, Copy)]
 pub enum Permission {
     Yes,
     No,
@@ -20,67 +20,67 @@ pub enum Permission {
 }
 
 // A sheet's reader: a refusal has the offset of its record.
-#[derive(Drop)]
+#[derive(Clone, Copy)]
 pub enum Reading {
     Whole,
     Refused(Refusal, usize),
 }
 
-#[derive(Drop)]
+#[derive(Clone, Copy)]
 pub struct Sheet {
     pub reading: Reading,
     pub map: Map,
 }
 
 // A sheet's writer: how many bytes it set.
-#[derive(Drop)]
+#[derive(Clone, Copy)]
 pub enum Writing {
     Wrote(usize),
     Refused(Refusal),
 }
 
-#[derive(Drop)]
+#[derive(Clone, Copy)]
 pub struct Started {
     pub verdict: Verdict,
     pub state: State,
 }
 
 // Step, tick, word-in and event.
-#[derive(Drop)]
+#[derive(Clone, Copy)]
 pub enum Reply {
     Answered(Answer),
     Refused(Refusal),
 }
 
-#[derive(Drop)]
+#[derive(Clone, Copy)]
 pub struct Stepped {
     pub reply: Reply,
     pub state: State,
 }
 
 // Playing a trace: to its end, or to its first broken record, with 11 or 12 and the record's offset.
-#[derive(Drop)]
+#[derive(Clone, Copy)]
 pub enum Close {
     Done,
     Broken(Refusal, usize),
     Refused(Refusal),
 }
 
-#[derive(Drop)]
+#[derive(Clone, Copy)]
 pub struct Played {
     pub close: Close,
     pub events: usize,
     pub state: State,
 }
 
-#[derive(Drop)]
+#[derive(Clone, Copy)]
 pub enum Ending {
     Spent,
     Idle,
     Refused(Refusal),
 }
 
-#[derive(Drop)]
+#[derive(Clone, Copy)]
 pub struct Batched {
     pub ending: Ending,
     pub steps: u64,

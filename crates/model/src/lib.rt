@@ -1,4 +1,6 @@
 // Document 01's things as plain values. What they mean is defined in specs/; no algorithm lives here.
+#![tactic(auto)]
+
 pub mod call;
 pub mod event;
 pub mod instruction;

@@ -2,20 +2,20 @@
 use crate::MOST;
 
 // Half open: begin up to but without end.
-#[derive(Drop)]
+#[derive(Clone, Copy)]
 pub struct Region {
     pub begin: u32,
     pub end: u32,
 }
 
-#[derive(Drop)]
+#[derive(Clone, Copy)]
 pub struct Domain {
     pub code: Region,
     pub data: Region,
     pub entry: u32,
 }
 
-#[derive(Drop)]
+#[derive(Clone, Copy)]
 pub struct Map {
     pub length: u32,
     pub kernel: Region,
@@ -23,7 +23,7 @@ pub struct Map {
     pub domains: [Domain; MOST],
 }
 
-#[derive(Drop)]
+#[derive(Clone, Copy)]
 pub enum Access {
     Read,
     Write,

@@ -1,7 +1,7 @@
 // "The state".
 use crate::MOST;
 
-#[derive(Drop)]
+#[derive(Clone, Copy)]
 pub enum Reason {
     Fetch(u64),
     Read(u64),
@@ -12,7 +12,7 @@ pub enum Reason {
 }
 
 // Halted comes first: it is what a place past an array's end reads as.
-#[derive(Drop)]
+#[derive(Clone, Copy)]
 pub enum Status {
     Halted,
     Ready,
@@ -20,14 +20,14 @@ pub enum Status {
     Faulted(Reason),
 }
 
-#[derive(Drop)]
+#[derive(Clone, Copy)]
 pub struct Mailbox {
     pub full: bool,
     pub word: u32,
     pub sender: u8,
 }
 
-#[derive(Drop)]
+#[derive(Clone, Copy)]
 pub struct Context {
     pub registers: [u32; 8],
     pub counter: u32,
@@ -35,7 +35,7 @@ pub struct Context {
     pub mailbox: Mailbox,
 }
 
-#[derive(Drop)]
+#[derive(Clone, Copy)]
 pub struct State {
     pub active: u8,
     pub contexts: [Context; MOST],

@@ -1,4 +1,6 @@
 // The program: files in, lines out. What the lines are is proved of `lines::transcript`; here files are read and the text is written.
+#![tactic(auto)]
+
 ghost use Rattle.io.specs.Counts.{IsPrefixLen};
 
 use libc::STDOUT_FILENO;

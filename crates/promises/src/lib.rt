@@ -1,1 +1,3 @@
 // The promises are theorems over crate model's definitions; this crate has no code.
+#![tactic(auto)]
+

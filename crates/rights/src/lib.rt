@@ -1,4 +1,6 @@
 // Is a map with its grid acceptable; and the public question, whether a domain may read, write or fetch an address.
+#![tactic(auto)]
+
 pub mod channel;
 pub mod domain;
 pub mod region;

@@ -1,4 +1,6 @@
 // The sheet's reader and writer: bytes to a map and its grid, and back.
+#![tactic(auto)]
+
 mod answer;
 mod channels;
 mod domains;

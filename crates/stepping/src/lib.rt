@@ -1,3 +1,5 @@
 // Steps of a node that was tested, one after the other, as many as a limit allows.
+#![tactic(auto)]
+
 pub mod run;
 mod turn;

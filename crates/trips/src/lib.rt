@@ -1,5 +1,7 @@
 // Demand 2's two round trips, as programs over the two calls: "A sheet that is written reads back as the same map, one that is
 // read writes back as the same bytes". Each contract joins the contracts of both calls with the law of the definitions.
+#![tactic(auto)]
+
 ghost use Rattle.trips.specs.Back.{ReadsBack, WritesBack};
 
 use model::MOST;
