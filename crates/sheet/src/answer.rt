@@ -6,33 +6,33 @@ use model::map::{Domain, Map, Region};
 use model::refusal::Refusal;
 
 // Where the reader stands: the offset of the next record's kind byte, and the map as far as it is read.
-#[derive(Drop)]
+#[derive(Clone, Copy)]
 pub struct Cursor {
     pub at: usize,
     pub map: Map,
 }
 
 // One record of one kind, or its body: it is there, or not.
-#[derive(Drop)]
+#[derive(Clone, Copy)]
 pub enum Record {
     Present,
     Refused(Refusal),
 }
 
-#[derive(Drop)]
+#[derive(Clone, Copy)]
 pub enum LengthRead {
     Length(u32),
     Refused(Refusal),
 }
 
-#[derive(Drop)]
+#[derive(Clone, Copy)]
 pub enum KernelRead {
     Kernel(Region),
     Refused(Refusal),
 }
 
 // `Others`: no record of kind 3 stands here, and channels may.
-#[derive(Drop)]
+#[derive(Clone, Copy)]
 pub enum DomainRead {
     Domain(Domain),
     Others,
@@ -40,7 +40,7 @@ pub enum DomainRead {
 }
 
 // `Channel`: the row and the column of the grid that a record of kind 4 marks. `Whole`: the sheet ends here, and so do the bytes.
-#[derive(Drop)]
+#[derive(Clone, Copy)]
 pub enum ChannelRead {
     Channel(usize, usize),
     Whole,
@@ -48,7 +48,7 @@ pub enum ChannelRead {
 }
 
 // The records before the channels: with `Whole` the channels follow at the cursor.
-#[derive(Drop)]
+#[derive(Clone, Copy)]
 pub struct Front {
     pub reading: Reading,
     pub cursor: Cursor,

@@ -1,0 +1,5 @@
+-- `instructions::byte::number` meets its contract. Its four bytes are those of the definition.
+use Rattle.instructions.proofs.byte.number.Goals as goal
+
+pub returns : goal.returns
+returns c = cc
