@@ -13,7 +13,7 @@ use model::map::{Access, Domain, Region};
 use model::state::Reason;
 use rights::domain::may;
 
-#[derive(Drop)]
+#[derive(Clone, Copy)]
 pub enum Denied {
     Nowhere,
     At(u64),

@@ -1,7 +1,7 @@
 // How an instruction went, for its own domain. The last number of a case is the counter past the instruction.
 use model::state::Reason;
 
-#[derive(Drop)]
+#[derive(Clone, Copy)]
 pub enum Went {
     Moved(u32),
     Sends(u8, u32, u32),
@@ -12,7 +12,7 @@ pub enum Went {
 }
 
 // A stretch: how many steps are left of the limit, where its last instruction stands, and how that one went.
-#[derive(Drop)]
+#[derive(Clone, Copy)]
 pub struct Ran {
     pub left: u64,
     pub counter: u32,

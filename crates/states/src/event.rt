@@ -10,7 +10,7 @@ use model::event::Answer;
 use model::state::State;
 use rights::channel::is_domain;
 
-#[derive(Drop)]
+#[derive(Clone, Copy)]
 pub struct Happened {
     pub answer: Answer,
     pub state: State,

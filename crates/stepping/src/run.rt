@@ -18,7 +18,7 @@ use states::status::is_ready;
 use states::switch::after;
 
 // How many steps are left of the limit, the answer of the last one that was done, and the state.
-#[derive(Drop)]
+#[derive(Clone, Copy)]
 pub struct Done {
     pub left: u64,
     pub answer: Answer,

@@ -13,7 +13,7 @@ use model::state::{Context, Mailbox, Status};
 use states::switch::after;
 
 // The context, the answer, the domain that is tried next and how many are.
-#[derive(Drop)]
+#[derive(Clone, Copy)]
 pub struct Settled {
     pub context: Context,
     pub answer: Answer,

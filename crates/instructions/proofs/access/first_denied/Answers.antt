@@ -18,13 +18,13 @@ loop-left-init c = (refl, refl)
 pub returns-then-not-may : goal.returns-then-not-may
 returns-then-not-may c =
     let l = c.loop-left in
-    sym (lowest_here _ l.at l.left (omega arith) (sym c.may.ensures ∙ c.if-not-may.true) ∙ l.invariant.1
+    sym (lowest_here _ l.at l.left (omega arith) (sym c.may.ensures ∙ c.if-not-may.true)) ∙ l.invariant.1
 
 pub loop-left-preserved : goal.loop-left-preserved
 loop-left-preserved c =
     let l = c.loop-left in (
       omega arith,
-      sym (lowest_on _ l.at l.left (omega arith) (sym c.may.ensures ∙ c.if-not-may.false) ∙ l.invariant.1,
+      sym (lowest_on _ l.at l.left (omega arith) (sym c.may.ensures ∙ c.if-not-may.false)) ∙ l.invariant.1,
     )
 
 pub returns : goal.returns

@@ -5,7 +5,7 @@ use Rattle.instructions.specs.OneLaws.{suspect_first, suspect_second, Fetched, o
 use Rattle.instructions.proofs.stretch.known.Goals as goal
 
 -- the kind byte is fetched
-abbrev fetched : tie.After-decode → Fetched
+abbrev fetched : goal.After-decode-decoded → Fetched
 fetched c =
     let a = c.args in
     record {

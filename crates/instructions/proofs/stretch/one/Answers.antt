@@ -7,7 +7,7 @@ use Rattle.instructions.specs.RowLaws.{past}
 use Rattle.instructions.proofs.stretch.one.Goals as goal
 
 -- the kind byte, once it is fetched
-abbrev fetched : tie.After-byte → Fetched
+abbrev fetched : goal.After-byte-kind → Fetched
 fetched c =
     let a = test.before.before.before.before.args in
     record {
@@ -23,14 +23,14 @@ fetched c =
     }
 
 -- what `known` asks of the kind
-asked : (c : tie.After-byte) (kind : ℕ) → kind ≡ c.byte.result → kind ≤ 19 → let f = fetched c in (kind ≤ 19) × (kind ≡ get_or f.memory f.counter 0) × (inside f.own.code f.counter ≡ true) × (f.count ≤ most)
+asked : (c : goal.After-byte-kind) (kind : ℕ) → kind ≡ c.byte.result → kind ≤ 19 → let f = fetched c in (kind ≤ 19) × (kind ≡ get_or f.memory f.counter 0) × (inside f.own.code f.counter ≡ true) × (f.count ≤ most)
 asked c kind e h = (h, e ∙ (fetched c).read, (fetched c).there, search rules)
 
 pub returns-then-not-inside : goal.returns-then-not-inside
 returns-then-not-inside c =
     let a = c.args in
     one_fetch a.own a.count a.row a.registers.now a.counter a.memory.now
-    (sym c.inside.ensures ∙ c.if-not-inside.true
+    (sym c.inside.ensures ∙ c.if-not-inside.true)
 
 pub known-requires : goal.known-requires
 known-requires c = (λ c κs. asked c.before.before.before 0 (omega arith) (omega arith)) c

@@ -5,8 +5,8 @@ use Rattle.model.specs.TestLaws.{and_pass, and_stop}
 use Rattle.instructions.proofs.work.send.Goals as goal
 
 -- past the first test, t is a domain
-is_one : (c : tie.Else1) → let a = c.before.before.args in (1 ≤ a.t) × (a.t ≤ a.count)
-is_one c = in_range _ _ (sym c.is_domain.ensures ∙ c.if-not-is_domain.false
+is_one : (c : goal.Else-not-is_domain) → let a = c.before.before.args in (1 ≤ a.t) × (a.t ≤ a.count)
+is_one c = in_range _ _ (sym c.is_domain.ensures ∙ c.if-not-is_domain.false)
 
 pub returns-then-not-is_domain : goal.returns-then-not-is_domain
 returns-then-not-is_domain c = rw (and_stop _ c.is_domain.ensures c.if-not-is_domain.true)

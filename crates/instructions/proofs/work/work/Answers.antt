@@ -12,7 +12,7 @@ use Rattle.instructions.specs.declared.went.Went.{Went}
 use Rattle.instructions.proofs.work.work.Goals as goal
 
 -- the match, where every arm starts
-abbrev before : tie.After-address → Before
+abbrev before : goal.After-address-a → Before
 before c =
     let r = s.before.before in
     let a = r.before.before.before.args in
@@ -37,101 +37,101 @@ before c =
           c.register.ensures c.register-y.ensures c.address-a.ensures.0;
     }
 
-pub returns-in-Nothing : goal.returns-in-Nothing
-returns-in-Nothing c = let d = before c in stays d c.in-Nothing.is (λ g. Went.Moved d.next) (λ b k. refl) refl
+pub jump_if-requires : goal.jump_if-requires
+jump_if-requires c = let d = before c in stays d c.enum_told.given.1 (λ g. Went.Moved d.next) (λ b k. refl) refl
 
-pub returns-in-Set : goal.returns-in-Set
-returns-in-Set c =
+pub send-requires : goal.send-requires
+send-requires c =
     sets (before c) c.enum-told2.given.1
     (λ g. number g.body 1) refl c.number.ensures c.becomes.ensures
 
+pub returns-in-Nothing : goal.returns-in-Nothing
+returns-in-Nothing c =
+    sets (before c) c.enum-told3.given.1
+    (λ g. g.y) refl refl c.becomes2.ensures
+
+pub returns-in-Set : goal.returns-in-Set
+returns-in-Set c =
+    sets (before c) c.enum-told4.given.1
+    (λ g. (g.x + g.y) % 2 ^ 32) refl c.wrapping-add-u32.ensures c.becomes3.ensures
+
 pub returns-in-Copy : goal.returns-in-Copy
 returns-in-Copy c =
-    sets (before c) c.in-Copy.is
-    (λ g. g.y) refl refl c.becomes-in-Copy.ensures
+    sets (before c) c.enum-told5.given.1
+    (λ g. (g.x + 2 ^ 32 - g.y) % 2 ^ 32) refl (omega arith) c.becomes4.ensures
 
 pub returns-in-Add : goal.returns-in-Add
 returns-in-Add c =
-    sets (before c) c.in-Add.is
-    (λ g. (g.x + g.y) % 2 ^ 32) refl c.wrapping_add_u32.ensures c.becomes-in-Add.ensures
+    sets (before c) c.enum-told6.given.1
+    (λ g. bit_and g.x g.y) refl refl c.becomes5.ensures
 
 pub returns-in-Subtract : goal.returns-in-Subtract
 returns-in-Subtract c =
-    sets (before c) c.in-Subtract.is
-    (λ g. (g.x + 2 ^ 32 - g.y) % 2 ^ 32) refl (omega arith) c.becomes-in-Subtract.ensures
+    sets (before c) c.enum-told7.given.1
+    (λ g. bit_or g.x g.y) refl refl c.becomes6.ensures
 
 pub returns-in-And : goal.returns-in-And
 returns-in-And c =
-    sets (before c) c.in-And.is
-    (λ g. bit_and g.x g.y) refl refl c.becomes-in-And.ensures
+    sets (before c) c.enum-told8.given.1
+    (λ g. bit_xor g.x g.y) refl refl c.becomes7.ensures
 
 pub returns-in-Or : goal.returns-in-Or
 returns-in-Or c =
-    sets (before c) c.in-Or.is
-    (λ g. bit_or g.x g.y) refl refl c.becomes-in-Or.ensures
+    sets (before c) c.enum-told9.given.1
+    (λ g. if ltb g.x g.y then 1 else 0) refl c.less.ensures c.becomes8.ensures
 
 pub returns-in-Xor : goal.returns-in-Xor
 returns-in-Xor c =
-    sets (before c) c.in-Xor.is
-    (λ g. bit_xor g.x g.y) refl refl c.becomes-in-Xor.ensures
-
-pub returns-in-Less : goal.returns-in-Less
-returns-in-Less c =
-    sets (before c) c.in-Less.is
-    (λ g. if ltb g.x g.y then 1 else 0) refl c.less.ensures c.becomes-in-Less.ensures
-
-pub returns-in-LoadByte : goal.returns-in-LoadByte
-returns-in-LoadByte c =
     loads (before c) c.enum-told10.given.1
     1 (λ bs. get_or bs 0 0) refl c.load_byte.result _ c.load_byte.ensures
 
-pub returns-in-LoadWord : goal.returns-in-LoadWord
-returns-in-LoadWord c =
+pub returns-in-Less : goal.returns-in-Less
+returns-in-Less c =
     loads (before c) c.enum-told11.given.1
     4 (λ bs. number bs 0) refl c.load_word.result _ c.load_word.ensures
 
-pub returns-in-StoreByte : goal.returns-in-StoreByte
-returns-in-StoreByte c =
-    stores (before c) c.in-StoreByte.is
+pub returns-in-LoadByte : goal.returns-in-LoadByte
+returns-in-LoadByte c =
+    stores (before c) c.enum-told12.given.1
     (λ x. x % 256 ∷ []) refl c.IsStore-byte.result _ c.IsStore-byte.ensures
 
-pub returns-in-StoreWord : goal.returns-in-StoreWord
-returns-in-StoreWord c =
-    stores (before c) c.in-StoreWord.is
+pub returns-in-LoadWord : goal.returns-in-LoadWord
+returns-in-LoadWord c =
+    stores (before c) c.enum-told13.given.1
     bytes refl c.Store-word.result _ c.Store-word.ensures
 
-pub returns-in-Jump : goal.returns-in-Jump
-returns-in-Jump c =
+pub returns-in-StoreByte : goal.returns-in-StoreByte
+returns-in-StoreByte c =
     stays (before c) c.enum-told14.given.1
     (λ g. Went.Moved (half g.body 0)) (λ b k. refl) (ap Went.Moved c.half.ensures)
 
-pub returns-in-JumpIf : goal.returns-in-JumpIf
-returns-in-JumpIf c =
+pub returns-in-StoreWord : goal.returns-in-StoreWord
+returns-in-StoreWord c =
     let d = before c in
     stays d c.enum-told15.given.1
     (λ g. Went.Moved (if eqb g.x 0 then d.next else half g.body 1))
     (λ b k. by_bool (eqb (in_r k b) 0) (λ e. rw e) (λ e. rw e))
-    (rw c.half-in-JumpIf.ensures at c.jump_if.ensures)
+    (rw c.half2.ensures at c.jump-if.ensures)
 
-pub returns-in-JumpTo : goal.returns-in-JumpTo
-returns-in-JumpTo c = stays (before c) c.in-JumpTo.is (λ g. Went.Moved g.x) (λ b k. refl) refl
+pub returns-in-Jump : goal.returns-in-Jump
+returns-in-Jump c = stays (before c) c.enum-told16.given.1 (λ g. Went.Moved g.x) (λ b k. refl) refl
 
-pub returns-in-Send : goal.returns-in-Send
-returns-in-Send c =
+pub returns-in-JumpIf : goal.returns-in-JumpIf
+returns-in-JumpIf c =
     let d = before c in
-    stays d c.in-Send.is
+    stays d c.enum-told17.given.1
     (λ g. if linked d.count d.row g.r then Went.Sends g.r g.y d.next else Went.Faults (Reason.Channel g.r))
     (λ b k. by_bool (linked d.count d.row (byte_r b)) (λ e. rw e) (λ e. rw e))
     c.send.ensures
 
-pub returns-in-Receive : goal.returns-in-Receive
-returns-in-Receive c =
+pub returns-in-JumpTo : goal.returns-in-JumpTo
+returns-in-JumpTo c =
     let d = before c in
-    stays d c.in-Receive.is
+    stays d c.enum-told18.given.1
     (λ g. Went.Receives g.r g.s d.next) (λ b k. refl) refl
 
-pub returns-in-Advance : goal.returns-in-Advance
-returns-in-Advance c = let d = before c in stays d c.in-Advance.is (λ g. Went.Yields d.next) (λ b k. refl) refl
+pub returns-in-Receive : goal.returns-in-Receive
+returns-in-Receive c = let d = before c in stays d c.enum-told19.given.1 (λ g. Went.Yields d.next) (λ b k. refl) refl
 
 pub returns-in-Halt : goal.returns-in-Halt
 returns-in-Halt c = stays (before c) c.in-Halt.is (λ g. Went.Halts) (λ b k. refl) refl

@@ -5,8 +5,8 @@ use Rattle.states.proofs.event.tick.Goals as goal
 
 pub returns-then-s-eq0 : goal.returns-then-s-eq0
 unfolding tick
-returns-then-s-eq0 c = rw (eq-eqb _ _ c.if-s-eq0.true)
+returns-then-s-eq0 c memory = rw (eq-eqb _ _ c.if-s-eq0.true)
 
 pub returns : goal.returns
 unfolding tick
-returns c = rw (ne_eqb _ _ c.if-s-eq0.false, c.switch-t.ensures)
+returns c memory = rw (ne_eqb _ _ c.if-s-eq0.false, c.switch-t.ensures)

@@ -21,4 +21,4 @@ loop-n-preserved c =
 
 pub returns : goal.returns
 unfolding any_ready
-returns c = spent (any_ready _) c.loop-n.invariant.1 c.loop-n-test.false
+returns c = spent (any_ready c.args.s) c.loop-n.invariant.1 c.loop-n-test.false

@@ -25,4 +25,4 @@ loop-n-preserved c =
 
 pub returns : goal.returns
 unfolding contexts_good
-returns c = spent (contexts_good _ _) c.loop-n.invariant.1 c.loop-n-test.false
+returns c = spent (contexts_good c.args.count c.args.s) c.loop-n.invariant.1 c.loop-n-test.false
