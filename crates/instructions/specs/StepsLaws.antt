@@ -13,7 +13,7 @@ use Rattle.model.specs.States.{empty_box, missing, own}
 use Rattle.model.specs.StatesLaws.{context_same}
 use Rattle.model.specs.Instructions.{plan, kept, carry}
 use Rattle.model.specs.InstructionsLaws.{carry_each, Fits, plan_fits}
-use Rattle.model.specs.Events.{attempt, step, perform}
+use Rattle.model.specs.Events.{attempt, perform}
 use Rattle.model.specs.EventsLaws.{acts, step_acts}
 use Rattle.model.specs.declared.map.Domain.{Domain}
 use Rattle.model.specs.declared.map.Map.{Map}
@@ -24,7 +24,6 @@ use Rattle.model.specs.declared.event.Answer.{Answer}
 use Rattle.instructions.specs.Told.{held, seen, loaded, deed, Tells}
 use Rattle.instructions.specs.Steps.{steps, onward, come, Stands, Granted, Stretches}
 use Rattle.instructions.specs.declared.went.Went.{Went}
-use Rattle.instructions.specs.declared.went.Ran.{Ran}
 
 abbrev with_contexts : State → List Context → State
 with_contexts s cs = record { active = s.active; contexts = cs }
