@@ -1,19 +1,16 @@
 -- `machine::reader::event_at_front` meets its contract. Each exit is the definition's for that kind, and 12 where there is none.
--- Assumes nothing.
 use Prim.Native.Nat.{ℕ}
 use mathlib.Core.Path.{◌≡◌, refl}
 use mathlib.Core.Logic.{◌≢◌}
 use mathlib.Core.List.{List, [], ◌∷◌}
 use native.Mathlib.Omega.{arith}
 use lib.ListN.{length, get_or}
-use borrow.Author.Rules.{rules}
 use borrow.Author.Tests.{ne_eqb}
 use Rattle.model.specs.Events.{word_event, of_kind, event_read}
 use Rattle.model.specs.declared.event.Event.{Event}
 use Rattle.model.specs.declared.event.EventRead.{EventRead}
 use Rattle.model.specs.declared.refusal.Refusal.{Refusal}
-use Rattle.machine.proofs.reader.event_at_front.Statement.{statement}
-use Rattle.machine.proofs.reader.event_at_front.Tie as tie
+use Rattle.machine.proofs.reader.event_at_front.Goals as goal
 
 reads-empty : (s : List ℕ) → length s ≡ 0 → EventRead.Broken Refusal.EventShort ≡ event_read s
 unfolding event_read
@@ -39,18 +36,21 @@ module _ (s : List ℕ) (kind : ℕ) (h : length s ≢ 0) (q : kind ≡ get_or s
   reads_none : kind ≢ 1 → kind ≢ 2 → kind ≢ 3 → EventRead.Broken Refusal.EventKind ≡ event_read s
   reads_none a b c = rw (front-kind s kind h q, ne_eqb kind 1 a, ne_eqb kind 2 b, ne_eqb kind 3 c)
 
-pub event_at_front_spec : {M : Type 1} → statement M
-event_at_front_spec =
-    tie.close
-    (tie.spec
-    (λ c. reads-empty _ c.if1.true)
-    (λ c κs. search rules)
-    (λ c. reads-step _ _ c.before.before.if1.false c.before.byte.ensures c.if2.true)
-    (λ c. reads-tick _ _ c.before.before.before.if1.false c.before.before.byte.ensures c.if3.true)
-    (λ c κs. search rules)
-    (λ c.
-    reads_word _ _ c.before.before.before.before.before.if1.false c.before.before.before.before.byte.ensures
-    c.before.if4.true _ c.word_event.ensures)
-    (λ c.
-    reads_none _ _ c.before.before.before.before.if1.false c.before.before.before.byte.ensures c.before.before.if2.false
-    c.before.if3.false c.if4.false))
+pub returns-then-bytes-eq0 : goal.returns-then-bytes-eq0
+returns-then-bytes-eq0 c = reads-empty _ c.if-bytes-eq0.true
+
+pub returns-then-kind-eq1 : goal.returns-then-kind-eq1
+returns-then-kind-eq1 c = reads-step _ _ c.if-bytes-eq0.false c.byte-kind.ensures c.if-kind-eq1.true
+
+pub returns-then-kind-eq2 : goal.returns-then-kind-eq2
+returns-then-kind-eq2 c = reads-tick _ _ c.if-bytes-eq0.false c.byte-kind.ensures c.if-kind-eq2.true
+
+pub returns-then-kind-eq3 : goal.returns-then-kind-eq3
+returns-then-kind-eq3 c =
+    reads_word _ _ c.if-bytes-eq0.false c.byte-kind.ensures
+    c.if-kind-eq3.true _ c.word_event.ensures
+
+pub returns : goal.returns
+returns c =
+    reads_none _ _ c.if-bytes-eq0.false c.byte-kind.ensures c.if-kind-eq1.false
+    c.if-kind-eq2.false c.if-kind-eq3.false

@@ -1,9 +1,7 @@
 -- `machine::happen::happen` meets its contract. Each arm is one of the three events; a step is a run of one.
--- Assumes nothing.
 use Prim.Native.Nat.{ℕ}
 use mathlib.Core.Path.{◌≡◌, ap, ◌∙◌}
 use mathlib.Core.List.{List}
-use borrow.Author.Rules.{rules}
 use Rattle.model.specs.Map.{Grid}
 use Rattle.model.specs.Events.{gives, tick, word_in, event}
 use Rattle.model.specs.declared.map.Map.{Map}
@@ -12,8 +10,7 @@ use Rattle.model.specs.declared.event.Event.{Event}
 use Rattle.model.specs.declared.event.Answer.{Answer}
 use Rattle.instructions.specs.Steps.{going, steps}
 use Rattle.machine.specs.BatchLaws.{outcome_of, step_steps}
-use Rattle.machine.proofs.happen.happen.Statement.{statement}
-use Rattle.machine.proofs.happen.happen.Tie as tie
+use Rattle.machine.proofs.happen.happen.Goals as goal
 
 module _ (m : Map) (g : Grid) (s : State) (memory : List ℕ) (e : Event) (a : Answer) (t : State) where
   happens-step :
@@ -31,18 +28,17 @@ module _ (m : Map) (g : Grid) (s : State) (memory : List ℕ) (e : Event) (a : A
   unfolding event
   happens-word b w q h = rw q h
 
-pub happen_spec : {M : Type 1} → statement M
-happen_spec =
-    tie.close
-    (tie.spec
-    (λ c. search rules)
-    (λ c κs. search rules)
-    (λ c. search rules)
-    (λ c κs. c.before.before.before.requires.steady.few)
-    (λ c. search rules)
-    (λ c κs. c.before.before.before.before.requires.steady.few)
-    (λ c. search rules)
-    (λ c.
-    let ran = c.before.before.before in happens-step _ _ _ _ _ _ _ _ _ ran.before.before.enum_told.given.1 ran.run.ensures)
-    (λ c. happens-tick _ _ _ _ _ _ _ c.before.enum-told2.given.1 (c.tick.ensures _))
-    (λ c. happens-word _ _ _ _ _ _ _ _ _ c.before.before.e.given.1 (c.word_in.ensures _)))
+pub tick-requires : goal.tick-requires
+tick-requires c = c.requires.steady.few
+
+pub word_in-requires : goal.word_in-requires
+word_in-requires c = c.requires.steady.few
+
+pub returns-in-Step : goal.returns-in-Step
+returns-in-Step c = happens-step _ _ _ _ _ _ _ _ _ c.in-Step.is c.run-done.ensures
+
+pub returns-in-Tick : goal.returns-in-Tick
+returns-in-Tick c = happens-tick _ _ _ _ _ _ _ c.in-Tick.is (c.tick.ensures _)
+
+pub returns-in-WordIn : goal.returns-in-WordIn
+returns-in-WordIn c = happens-word _ _ _ _ _ _ _ _ _ c.in-WordIn.is (c.word_in.ensures _)
