@@ -1,11 +1,11 @@
 -- What the types say of a map and a grid: eight entries, eight rows of eight.
 -- Assumes nothing.
 use Prim.Native.Nat.{ℕ, zero, suc, ◌<◌}
-use mathlib.Core.Path.{◌≡◌, sym, ◌∙◌}
+use mathlib.Core.Path.{◌≡◌}
 use mathlib.Core.Bool.{Bool}
 use mathlib.Core.List.{List, [], ◌∷◌}
 use native.Mathlib.Omega.{arith}
-use lib.ListN.{length, get_or, length-map}
+use lib.ListN.{length, get_or}
 use mir.Val.{Val}
 use denote.Array.{Array, each}
 use denote.Laws.{Is}
@@ -29,7 +29,7 @@ pub shaped :
     (m : Map) (g : Grid) (vs ws : List Val) → Is (row stored.the_type) m vs → Is (Array (Array Boolean most) most) g ws → Shaped m g
 shaped m g vs ws p q =
     record {
-      domains = sym (length-map m.domains _) ∙ p.1.1.1.1.1.0.1.0.1;
+      domains = p.1.1.1.1.1.0.1.0.1;
       rows = q.1.0.1;
       columns = λ i h. rows_long g q.0 q.1.1 i (omega (arith, q.1.0.1));
     }

@@ -1,0 +1,17 @@
+-- `sheet::domains::domain_body` meets its contract. Each exit is a law of a record of kind 3.
+use mathlib.Core.Path.{sym}
+use Rattle.sheet.specs.DomainLaws.{body_cut, domain_read, domain_bad}
+use Rattle.sheet.proofs.domains.domain_body.Goals as goal
+
+pub returns-then-s-at-lt20 : goal.returns-then-s-at-lt20
+returns-then-s-at-lt20 c = body_cut _ _ c.requires.0 c.requires.1 c.if-s-at-lt20.true
+
+pub returns-in-Accepted : goal.returns-in-Accepted
+returns-in-Accepted c =
+    domain_read _ _ c.requires.0 c.requires.1 _ c.if-s-at-lt20.false c.domain_of-d.ensures
+    (sym c.in-Accepted.ensures)
+
+pub returns-in-Refused : goal.returns-in-Refused
+returns-in-Refused c =
+    domain_bad _ _ c.requires.0 c.requires.1 _ c.if-s-at-lt20.false c.domain_of-d.ensures _
+    (sym c.in-Refused.ensures)

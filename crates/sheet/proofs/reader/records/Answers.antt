@@ -1,0 +1,16 @@
+-- `sheet::reader::records` meets its contract. The channels are read from where the front has ended, into a grid that is all no.
+use mathlib.Core.Path.{◌∙◌, ap}
+use lib.ListN.{drop}
+use Rattle.model.specs.Map.{Grid}
+use Rattle.model.specs.Sheet.{channels_read}
+use Rattle.sheet.proofs.reader.records.Goals as goal
+
+pub returns-in-Refused : goal.returns-in-Refused
+returns-in-Refused c = rw c.in-Refused.is at c.front-start.ensures.reads
+
+pub returns-in-Whole : goal.returns-in-Whole
+returns-in-Whole c =
+    let x = c.front-start.result.cursor in
+    c.channels-close.ensures
+    ∙ ap (λ (g : Grid). channels_read x.at x.map 0 g (drop x.at c.args.s.now)) c.wipe.ensures
+    ∙ (rw c.in-Whole.is at c.front-start.ensures.reads)

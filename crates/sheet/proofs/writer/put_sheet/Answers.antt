@@ -1,0 +1,22 @@
+-- `sheet::writer::put_sheet` meets its contract. The head, the domains, the channels and the end are laid, each past the one
+-- before.
+use native.Mathlib.Omega.{arith}
+use lib.ListN.{length-append}
+use Rattle.model.specs.Sheet.{sheet_bytes}
+use Rattle.model.specs.SheetLaws.{sheet_length}
+use Rattle.sheet.specs.LaidLaws.{laid_then}
+use Rattle.sheet.proofs.writer.put_sheet.Goals as goal
+
+pub put_channels-at_five-requires : goal.put_channels-at_five-requires
+unfolding sheet_bytes
+put_channels-at_five-requires c = omega (arith, simp length-append at (sheet_length c.args.m c.args.g))
+
+pub put_end-requires : goal.put_end-requires
+unfolding sheet_bytes
+put_end-requires c = omega (arith, simp length-append at (sheet_length c.args.m c.args.g))
+
+pub returns : goal.returns
+unfolding sheet_bytes
+returns c =
+    laid_then (laid_then c.put_head-at_domains.ensures c.put_domains-at_channels.ensures)
+    (laid_then c.put_channels-at_five.ensures c.put_end.ensures)
