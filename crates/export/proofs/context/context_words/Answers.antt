@@ -1,0 +1,7 @@
+-- `export::context::context_words` meets its contract. Its words are those of the definition.
+use Rattle.export.specs.StateWords.{context_words}
+use Rattle.export.proofs.context.context_words.Goals as goal
+
+pub returns : goal.returns
+unfolding context_words
+returns c = rw (c.flag-full.ensures, c.high-second.ensures, c.low-first.ensures, c.status_word-kind.ensures, c.status_number-n.ensures)

@@ -1,0 +1,19 @@
+-- `export::lay::lay_bytes` meets its contract. The loop's invariant: what is left of the part, laid at `next`, comes to what all of it comes to
+-- from `at`. The measure is how much is left.
+use Prim.Native.Nat.{◌-◌}
+use mathlib.Core.Path.{refl}
+use native.Mathlib.Omega.{arith}
+use Rattle.export.specs.WordsLaws.{laying_past, laying_on, laying_all}
+use Rattle.export.proofs.lay.lay_bytes.Goals as goal
+
+pub loop-i-init : goal.loop-i-init
+loop-i-init c = (omega arith, refl, refl)
+
+pub returns-then-next-to : goal.returns-then-next-to
+returns-then-next-to c = laying_past _ _ _ _ _ _ c.loop-i.invariant c.if-next-to.true
+
+pub loop-i-preserved : goal.loop-i-preserved
+loop-i-preserved c = laying_on _ _ _ _ _ _ c.loop-i.invariant c.loop-i-test.true
+
+pub returns : goal.returns
+returns c = laying_all _ _ _ _ _ _ c.loop-i.invariant c.loop-i-test.false
