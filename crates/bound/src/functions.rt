@@ -5,20 +5,18 @@ ghost use Rattle.model.specs.declared.map.Access.{Access};
 ghost use Rattle.model.specs.declared.event.Event.{Event};
 ghost use Rattle.export.specs.Reports.{viewed, told, counted, spent};
 ghost use Rattle.export.specs.Exports.{read};
-ghost use Rattle.export.specs.Functions.{Function, result};
+ghost use Rattle.export.specs.Functions.{Function, result_of};
 
 pub fn read(sheet: &[u8], map: &mut [u32; 44], grid: &mut [u8; 64], at: &mut u64) -> u32
-    ensures* { λ r.
-        ⌜ read (left r at.new) map.new grid.new
-        ≡ result (Function.reading sheet.now) ⌝ }
+    ensures { read (left result at.new) map.new grid.new
+        ≡ result_of (Function.reading sheet.now) }
 {
     export::arcovinda_read(sheet, map, grid, at)
 }
 
 pub fn write(map: &[u32; 44], grid: &[u8; 64], buffer: &mut [u8], wrote: &mut u64) -> u32
-    ensures* { λ r.
-        ⌜ left (left r wrote.new) buffer.new
-        ≡ result (Function.writing map.now grid.now buffer.old) ⌝ }
+    ensures { left (left result wrote.new) buffer.new
+        ≡ result_of (Function.writing map.now grid.now buffer.old) }
 {
     export::arcovinda_write(map, grid, buffer, wrote)
 }
@@ -30,9 +28,8 @@ pub fn may_read(
     address: u64,
     granted: &mut u32,
 ) -> u32
-    ensures* { λ r.
-        ⌜ left r granted.new
-        ≡ result (Function.asking map.now grid.now domain Access.Read address granted.old) ⌝ }
+    ensures { left result granted.new
+        ≡ result_of (Function.asking map.now grid.now domain Access.Read address granted.old) }
 {
     export::arcovinda_may_read(map, grid, domain, address, granted)
 }
@@ -44,9 +41,8 @@ pub fn may_write(
     address: u64,
     granted: &mut u32,
 ) -> u32
-    ensures* { λ r.
-        ⌜ left r granted.new
-        ≡ result (Function.asking map.now grid.now domain Access.Write address granted.old) ⌝ }
+    ensures { left result granted.new
+        ≡ result_of (Function.asking map.now grid.now domain Access.Write address granted.old) }
 {
     export::arcovinda_may_write(map, grid, domain, address, granted)
 }
@@ -58,9 +54,8 @@ pub fn may_fetch(
     address: u64,
     granted: &mut u32,
 ) -> u32
-    ensures* { λ r.
-        ⌜ left r granted.new
-        ≡ result (Function.asking map.now grid.now domain Access.Fetch address granted.old) ⌝ }
+    ensures { left result granted.new
+        ≡ result_of (Function.asking map.now grid.now domain Access.Fetch address granted.old) }
 {
     export::arcovinda_may_fetch(map, grid, domain, address, granted)
 }
@@ -73,15 +68,14 @@ pub fn view(
     begin: &mut u64,
     length: &mut u64,
 ) -> u32
-    ensures* { λ r.
-        ⌜ viewed r begin.new length.new
-        ≡ result (Function.viewing map.now grid.now memory.now domain) ⌝ }
+    ensures { viewed result begin.new length.new
+        ≡ result_of (Function.viewing map.now grid.now memory.now domain) }
 {
     export::arcovinda_view(map, grid, memory, domain, begin, length)
 }
 
 pub fn start(map: &[u32; 44], grid: &[u8; 64], state: &mut [u32; 121]) -> u32
-    ensures* { λ r. ⌜ left r state.new ≡ result (Function.starting map.now grid.now) ⌝ }
+    ensures { left result state.new ≡ result_of (Function.starting map.now grid.now) }
 {
     export::arcovinda_start(map, grid, state)
 }
@@ -93,9 +87,8 @@ pub fn step(
     memory: &mut [u8],
     answer: &mut [u32; 5],
 ) -> u32
-    ensures* { λ r.
-        ⌜ left (told r state.new answer.new) memory.new
-        ≡ result (Function.happening map.now grid.now state.old memory.old answer.old Event.Step) ⌝ }
+    ensures { left (told result state.new answer.new) memory.new
+        ≡ result_of (Function.happening map.now grid.now state.old memory.old answer.old Event.Step) }
 {
     export::arcovinda_step(map, grid, state, memory, answer)
 }
@@ -107,9 +100,8 @@ pub fn tick(
     memory: &mut [u8],
     answer: &mut [u32; 5],
 ) -> u32
-    ensures* { λ r.
-        ⌜ left (told r state.new answer.new) memory.new
-        ≡ result (Function.happening map.now grid.now state.old memory.old answer.old Event.Tick) ⌝ }
+    ensures { left (told result state.new answer.new) memory.new
+        ≡ result_of (Function.happening map.now grid.now state.old memory.old answer.old Event.Tick) }
 {
     export::arcovinda_tick(map, grid, state, memory, answer)
 }
@@ -123,9 +115,8 @@ pub fn word_in(
     word: u32,
     answer: &mut [u32; 5],
 ) -> u32
-    ensures* { λ r.
-        ⌜ left (told r state.new answer.new) memory.new
-        ≡ result (Function.happening map.now grid.now state.old memory.old answer.old (Event.WordIn domain word)) ⌝ }
+    ensures { left (told result state.new answer.new) memory.new
+        ≡ result_of (Function.happening map.now grid.now state.old memory.old answer.old (Event.WordIn domain word)) }
 {
     export::arcovinda_word_in(map, grid, state, memory, domain, word, answer)
 }
@@ -139,9 +130,8 @@ pub fn play(
     events: &mut u64,
     at: &mut u64,
 ) -> u32
-    ensures* { λ r.
-        ⌜ left (counted r state.new events.new at.new) memory.new
-        ≡ result (Function.playing map.now grid.now state.old memory.old trace.now) ⌝ }
+    ensures { left (counted result state.new events.new at.new) memory.new
+        ≡ result_of (Function.playing map.now grid.now state.old memory.old trace.now) }
 {
     export::arcovinda_play(map, grid, state, memory, trace, events, at)
 }
@@ -154,9 +144,8 @@ pub fn batch(
     limit: u64,
     steps: &mut u64,
 ) -> u32
-    ensures* { λ r.
-        ⌜ left (spent r state.new steps.new) memory.new
-        ≡ result (Function.batching map.now grid.now state.old memory.old limit) ⌝ }
+    ensures { left (spent result state.new steps.new) memory.new
+        ≡ result_of (Function.batching map.now grid.now state.old memory.old limit) }
 {
     export::arcovinda_batch(map, grid, state, memory, limit, steps)
 }

@@ -40,17 +40,17 @@ Result (Function.happening map grid state memory answer e) = Left Told (List ℕ
 Result (Function.playing map grid state memory trace) = Left Counted (List ℕ)
 Result (Function.batching map grid state memory limit) = Left Spent (List ℕ)
 
-abbrev pub result : (f : Function) → Result f
-result (Function.reading sheet) = c_read sheet
-result (Function.writing map grid buffer) = c_write map grid buffer
-result (Function.asking map grid d k a granted) = c_may map grid d k a granted
-result (Function.viewing map grid memory d) = c_view map grid memory d
-result (Function.starting map grid) = c_start map grid
-result (Function.happening map grid state memory answer e) = c_event map grid state memory answer e
-result (Function.playing map grid state memory trace) = c_play map grid state memory trace
-result (Function.batching map grid state memory limit) = c_batch map grid state memory limit
+abbrev pub result_of : (f : Function) → Result f
+result_of (Function.reading sheet) = c_read sheet
+result_of (Function.writing map grid buffer) = c_write map grid buffer
+result_of (Function.asking map grid d k a granted) = c_may map grid d k a granted
+result_of (Function.viewing map grid memory d) = c_view map grid memory d
+result_of (Function.starting map grid) = c_start map grid
+result_of (Function.happening map grid state memory answer e) = c_event map grid state memory answer e
+result_of (Function.playing map grid state memory trace) = c_play map grid state memory trace
+result_of (Function.batching map grid state memory limit) = c_batch map grid state memory limit
 
-pub function_coincides : (f : Function) (x y : Result f) → x ≡ result f → y ≡ result f → x ≡ y
+pub function_coincides : (f : Function) (x y : Result f) → x ≡ result_of f → y ≡ result_of f → x ≡ y
 function_coincides f x y p q = coincide p q
 
 -- the call, on what the words are
@@ -84,7 +84,7 @@ carried f n at report q h =
     ap report u.2 ∙ h u.0 ∙ ap (λ i. refusing f i at) u.1
 
 pub function_unchanged :
-    (f : Function) (n at : ℕ) → says (call f) (value (call f)) ≡ Ruling.refused n at → result f ≡ refusing f n at
+    (f : Function) (n at : ℕ) → says (call f) (value (call f)) ≡ Ruling.refused n at → result_of f ≡ refusing f n at
 unfolding c_read c_write c_may c_view c_start c_event c_play c_batch
 function_unchanged (Function.reading sheet) n at q = carried (Function.reading sheet) n at found q (λ r. refl)
 function_unchanged (Function.writing map grid buffer) n at q =
