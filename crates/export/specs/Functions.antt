@@ -14,7 +14,7 @@ use Rattle.model.specs.declared.event.Event.{Event}
 use Rattle.model.specs.declared.refusal.Refusal.{Refusal}
 use Rattle.promises.specs.Public.{Call, Result as Returned, value, coincide}
 use Rattle.promises.specs.Tests.{Ruling}
-use Rattle.promises.specs.Refused.{says, refusing as refused-call, unchanged}
+use Rattle.promises.specs.Refused.{says, refusing as refused_call, unchanged}
 use Rattle.export.specs.MapWords.{map_of, map_words, grid_of, grid_bytes}
 use Rattle.export.specs.StateWords.{state_of, packed}
 use Rattle.export.specs.Reports.{writing_report, permission_report, Viewed, viewed, started_report, Told, told, stepped_report, Counted, counted, played_report, Spent, spent, batched_report}
@@ -77,7 +77,7 @@ refusing (Function.batching map grid state memory limit) n at = left (spent n st
 -- what a report makes of the refused call is the refused function
 carried :
     (f : Function) (n at : ℕ) (report : Returned (call f) → Result f) → says (call f) (value (call f)) ≡ Ruling.refused n at
-    → ((r : Refusal) → report (refused-call (call f) r at) ≡ refusing f (refusal_number r) at)
+    → ((r : Refusal) → report (refused_call (call f) r at) ≡ refusing f (refusal_number r) at)
     → report (value (call f)) ≡ refusing f n at
 carried f n at report q h =
     let u = unchanged (call f) n at q in

@@ -52,13 +52,13 @@ checked_suspect :
     ≡ (if leb (suspect f b) 7 then p else Plan.end (Deed.faults (Reason.Register (suspect f b))))
 unfolding checked
 checked_suspect Body.- b p = refl
-checked_suspect Body.r-n b p = one_named (byte_r b) p
-checked_suspect Body.r-s b p = by_bool (nat_le (byte_r b) 7) (λ e. rw e) (λ e. rw (e, e))
-checked_suspect Body.r-s-o b p = by_bool (nat_le (byte_r b) 7) (λ e. rw e) (λ e. rw (e, e))
+checked_suspect Body.r_n b p = one_named (byte_r b) p
+checked_suspect Body.r_s b p = by_bool (nat_le (byte_r b) 7) (λ e. rw e) (λ e. rw (e, e))
+checked_suspect Body.r_s_o b p = by_bool (nat_le (byte_r b) 7) (λ e. rw e) (λ e. rw (e, e))
 checked_suspect Body.a b p = refl
-checked_suspect Body.r-a b p = one_named (byte_r b) p
+checked_suspect Body.r_a b p = one_named (byte_r b) p
 checked_suspect Body.r b p = one_named (byte_r b) p
-checked_suspect Body.d-r b p = refl
+checked_suspect Body.d_r b p = refl
 
 -- ---- five bytes are as good as the body's own
 

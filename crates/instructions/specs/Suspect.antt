@@ -8,23 +8,23 @@ use Rattle.model.specs.Table.{Body}
 -- whether the first, and the second, byte of such a body names a register
 abbrev pub first_named : Body → Bool
 first_named Body.- = false
-first_named Body.r-n = true
-first_named Body.r-s = true
-first_named Body.r-s-o = true
+first_named Body.r_n = true
+first_named Body.r_s = true
+first_named Body.r_s_o = true
 first_named Body.a = false
-first_named Body.r-a = true
+first_named Body.r_a = true
 first_named Body.r = true
-first_named Body.d-r = false
+first_named Body.d_r = false
 
 abbrev pub second_named : Body → Bool
 second_named Body.- = false
-second_named Body.r-n = false
-second_named Body.r-s = true
-second_named Body.r-s-o = true
+second_named Body.r_n = false
+second_named Body.r_s = true
+second_named Body.r_s_o = true
 second_named Body.a = false
-second_named Body.r-a = false
+second_named Body.r_a = false
 second_named Body.r = false
-second_named Body.d-r = true
+second_named Body.d_r = true
 
 -- a byte, where it names a register
 abbrev pub if_named : Bool → ℕ → ℕ
