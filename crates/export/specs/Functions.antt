@@ -14,7 +14,8 @@ use Rattle.model.specs.declared.event.Event.{Event}
 use Rattle.model.specs.declared.refusal.Refusal.{Refusal}
 use Rattle.promises.specs.Public.{Call, Result as Returned, value, coincide}
 use Rattle.promises.specs.Tests.{Ruling}
-use Rattle.promises.specs.Refused.{says, refusing as refused_call, unchanged}
+use Rattle.promises.specs.Refused.{says, refusing as refused_call}
+use Rattle.promises.proofs.Refused.{unchanged}
 use Rattle.export.specs.MapWords.{map_of, map_words, grid_of, grid_bytes}
 use Rattle.export.specs.StateWords.{state_of, packed}
 use Rattle.export.specs.Reports.{writing_report, permission_report, Viewed, viewed, started_report, Told, told, stepped_report, Counted, counted, played_report, Spent, spent, batched_report}

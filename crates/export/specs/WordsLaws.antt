@@ -7,7 +7,7 @@ use Rattle.std.specs.Prelude.{ℕ, zero, suc, ◌+◌, ◌-◌, ◌<◌, ◌≤�
 use Rattle.std.proofs.Common.{sym, ◌∙◌, add-one, arith, length-set, drop_of_length-le, drop-cons, eq-eqb, ne_eqb}
 use Rattle.std.proofs.lemmas.List.Edits.{sets}
 use Rattle.std.proofs.Math.Seq.{set_out}
-use Rattle.model.specs.LoopLaws.{back}
+use Rattle.model.proofs.LoopLaws.{back}
 use Rattle.export.specs.Words.{alike, eight}
 
 pub eight_of :

@@ -4,7 +4,7 @@ use Rattle.std.specs.Prelude.{◌≡◌, ℕ, zero, suc, ◌+◌, ◌-◌, ◌<�
 use Rattle.std.proofs.Common.{sym, arith}
 use Rattle.std.proofs.Math.Option.{some}
 use Rattle.std.proofs.lemmas.List.Edits.{sets}
-use Rattle.model.specs.LoopLaws.{back}
+use Rattle.model.proofs.LoopLaws.{back}
 use Rattle.model.specs.Map.{may, lowest}
 use Rattle.model.specs.Instructions.{peek, carry}
 use Rattle.model.specs.declared.map.Access.{Access}

@@ -4,9 +4,9 @@ use Rattle.std.specs.Prelude.{◌≡◌, ℕ, zero, suc, ◌+◌, ◌<◌, ◌�
 use Rattle.std.proofs.Math.Path.{refl}
 use Rattle.std.proofs.Math.Option.{none}
 use Rattle.std.proofs.Common.{arith, leb-true}
-use Rattle.model.specs.BasicsLaws.{and_left, and_right}
+use Rattle.model.proofs.BasicsLaws.{and_left, and_right}
 use Rattle.model.specs.Map.{may, lowest}
-use Rattle.model.specs.MapLaws.{inside_between, may_read}
+use Rattle.model.proofs.MapLaws.{inside_between, may_read}
 use Rattle.model.specs.declared.map.Region.{Region}
 use Rattle.model.specs.declared.map.Access.{Access}
 use Rattle.model.specs.declared.map.Domain.{Domain}

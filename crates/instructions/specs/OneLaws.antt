@@ -7,9 +7,9 @@ use Rattle.std.proofs.Math.Option.{some}
 use Rattle.std.proofs.Math.ListN.{get_or-map}
 use borrow.Author.Tests.{ltb-true, ltb-false, le-leb, lt-leb}
 use Rattle.model.specs.Basics.{if◌then◌else◌}
-use Rattle.model.specs.BasicsLaws.{by_bool}
+use Rattle.model.proofs.BasicsLaws.{by_bool}
 use Rattle.model.specs.Map.{inside, may, lowest}
-use Rattle.model.specs.MapLaws.{inside_from, inside_below}
+use Rattle.model.proofs.MapLaws.{inside_from, inside_below}
 use Rattle.model.specs.Table.{Body, size, registers_of, Row, table, row_of, decoded}
 use Rattle.model.specs.States.{with_counter}
 use Rattle.model.specs.Instructions.{Deed, Plan, byte_r, byte_s, work, checked, worked, decode, plan, peek, kept, carry}

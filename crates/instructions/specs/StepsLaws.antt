@@ -10,11 +10,13 @@ use native.Mathlib.Omega.{arith}
 use Rattle.std.proofs.lemmas.List.{set-get_or}
 use Rattle.model.specs.Map.{Grid, granted, rights}
 use Rattle.model.specs.States.{empty_box, missing, own}
-use Rattle.model.specs.StatesLaws.{context_same}
+use Rattle.model.proofs.StatesLaws.{context_same}
 use Rattle.model.specs.Instructions.{plan, kept, carry}
-use Rattle.model.specs.InstructionsLaws.{carry_each, Fits, plan_fits}
+use Rattle.model.specs.InstructionsLaws.{Fits}
+use Rattle.model.proofs.InstructionsLaws.{carry_each, plan_fits}
 use Rattle.model.specs.Events.{attempt, perform}
-use Rattle.model.specs.EventsLaws.{acts, step_acts}
+use Rattle.model.specs.EventsLaws.{acts}
+use Rattle.model.proofs.EventsLaws.{step_acts}
 use Rattle.model.specs.declared.map.Domain.{Domain}
 use Rattle.model.specs.declared.map.Map.{Map}
 use Rattle.model.specs.declared.state.Status.{Status}

@@ -3,7 +3,7 @@
 use Rattle.std.specs.Prelude.{ℕ, zero, suc, ◌+◌, ◌-◌, ◌*◌, ◌/◌, ◌%◌, ◌^◌, ◌≤◌, ◌<◌, ◌≡◌, refl, List, [], ◌∷◌, ◌++◌, ltb, leb}
 use Rattle.std.proofs.Common.{sym, ap, ◌∙◌, arith, sub-one, lt-ltb, le-ltb, leb-true, leb-false}
 use Rattle.std.proofs.Math.Nat.{pow-le-pow_right}
-use Rattle.model.specs.BasicsLaws.{by_bool}
+use Rattle.model.proofs.BasicsLaws.{by_bool}
 use Rattle.io.specs.Digits.{last_digits, hex_digit_ascii, IsDigitCount}
 use Rattle.model.specs.Program.{digit, figures, decimal}
 

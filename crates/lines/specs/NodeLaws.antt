@@ -6,9 +6,10 @@ use Rattle.std.proofs.Common.{sym, ◌∙◌, eq-eqb}
 use Rattle.std.proofs.Math.Path.{ap, subst}
 use Rattle.model.specs.Map.{Grid}
 use Rattle.model.specs.Refusals.{check, accepts}
-use Rattle.model.specs.RefusalsLaws.{then_both, check_both, acceptable}
+use Rattle.model.proofs.RefusalsLaws.{then_both, check_both, acceptable}
 use Rattle.model.specs.States.{start}
-use Rattle.model.specs.SoundLaws.{Sound, sound_formed, start_sound}
+use Rattle.model.specs.SoundLaws.{Sound}
+use Rattle.model.proofs.SoundLaws.{sound_formed, start_sound}
 use Rattle.model.specs.Events.{event, event_read}
 use Rattle.model.specs.Calls.{Left, left, node_verdict, started, starter, stepped, stepper}
 use Rattle.model.specs.Program.{active_line}

@@ -11,7 +11,7 @@ use borrow.Author.Tests.{eqb-true, le-leb}
 use Rattle.model.specs.Map.{Grid, is_domain}
 use Rattle.model.specs.RecordLaws.{Octets}
 use Rattle.model.specs.Refusals.{check, ◌▸◌, accepts}
-use Rattle.model.specs.RefusalsLaws.{check_true, acceptable}
+use Rattle.model.proofs.RefusalsLaws.{check_true, acceptable}
 use Rattle.model.specs.Sheet.{Found, sheet_read}
 use Rattle.model.specs.Calls.{left, as_long, lent_verdict, reported, reader}
 use Rattle.model.specs.Program.{prints, refusal_line, refusal_at_line, unless_refused, of_trace, of_sheet, transcript, shown}

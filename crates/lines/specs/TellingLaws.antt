@@ -7,7 +7,7 @@ use Rattle.std.proofs.Common.{◌∙◌, append_assoc}
 use Rattle.model.specs.Map.{Grid}
 use Rattle.model.specs.States.{start}
 use Rattle.model.specs.Events.{Trace, event, run, event_read, trace_of}
-use Rattle.model.specs.TraceLaws.{rest_end, rest_broken, rest_whole}
+use Rattle.model.proofs.TraceLaws.{rest_end, rest_broken, rest_whole}
 use Rattle.model.specs.Calls.{Left, left}
 use Rattle.model.specs.Program.{event_line, event_lines, active_line, refusal_at_line, close_line, of_run, of_trace, shown}
 use Rattle.model.specs.declared.map.Map.{Map}

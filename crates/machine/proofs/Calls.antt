@@ -8,8 +8,9 @@ use lib.ListN.{length}
 use Rattle.model.specs.Basics.{if◌then◌else◌}
 use Rattle.model.specs.Map.{most, Grid}
 use Rattle.model.specs.Refusals.{accepts}
-use Rattle.model.specs.RefusalsLaws.{check_true, then_left, then_right, acceptable}
-use Rattle.model.specs.SoundLaws.{Sound, sound}
+use Rattle.model.proofs.RefusalsLaws.{check_true, then_left, then_right, acceptable}
+use Rattle.model.specs.SoundLaws.{Sound}
+use Rattle.model.proofs.SoundLaws.{sound}
 use Rattle.model.specs.Events.{gives, event}
 use Rattle.model.specs.Calls.{Left, left, as_long, node_verdict, stepped, stepper, player, batched, batcher}
 use Rattle.model.specs.declared.map.Map.{Map}

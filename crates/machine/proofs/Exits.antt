@@ -8,14 +8,14 @@ use native.Mathlib.Omega.{arith}
 use lib.Dec.{leb}
 use lib.ListN.{length, take, drop}
 use borrow.Author.Tests.{leb-true, eqb-true}
-use Rattle.model.specs.BasicsLaws.{and_left, and_right}
+use Rattle.model.proofs.BasicsLaws.{and_left, and_right}
 use Rattle.model.specs.Map.{most, Grid, is_domain, domain}
-use Rattle.model.specs.MapLaws.{in_range}
+use Rattle.model.proofs.MapLaws.{in_range}
 use Rattle.model.specs.Refusals.{check, ◌▸◌, accepts}
-use Rattle.model.specs.RefusalsLaws.{check_true, then_left, then_right, acceptable, placed}
+use Rattle.model.proofs.RefusalsLaws.{check_true, then_left, then_right, acceptable, placed}
 use Rattle.model.specs.States.{no_state, start, well_formed}
 use Rattle.model.specs.Calls.{as_long, lent_verdict, node_verdict, view, starter}
-use Rattle.model.specs.TestLaws.{then_pass, then_stop}
+use Rattle.model.proofs.TestLaws.{then_pass, then_stop}
 use Rattle.model.specs.declared.map.Region.{Region}
 use Rattle.model.specs.declared.map.Map.{Map}
 use Rattle.model.specs.declared.state.State.{State}

@@ -7,10 +7,10 @@ use Rattle.std.proofs.Common.{ap}
 use native.Mathlib.Omega.{arith}
 use borrow.Author.Tests.{ne_eqb}
 use Rattle.model.specs.Basics.{if◌then◌else◌}
-use Rattle.model.specs.BasicsLaws.{by_bool}
+use Rattle.model.proofs.BasicsLaws.{by_bool}
 use Rattle.model.specs.Map.{Grid}
 use Rattle.model.specs.Events.{Outcome, gives, step, Batch, one_more, batch}
-use Rattle.model.specs.EventsLaws.{step_idle}
+use Rattle.model.proofs.EventsLaws.{step_idle}
 use Rattle.model.specs.declared.map.Map.{Map}
 use Rattle.model.specs.declared.state.State.{State}
 use Rattle.model.specs.declared.event.Answer.{Answer}

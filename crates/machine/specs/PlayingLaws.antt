@@ -9,7 +9,7 @@ use native.Mathlib.Omega.{arith}
 use Rattle.std.proofs.Math.ListN.{length}
 use Rattle.model.specs.Map.{Grid}
 use Rattle.model.specs.Events.{Trace, event, run, event_read, trace_of}
-use Rattle.model.specs.TraceLaws.{rest_end, rest_broken, rest_whole}
+use Rattle.model.proofs.TraceLaws.{rest_end, rest_broken, rest_whole}
 use Rattle.model.specs.Calls.{Left, left, played}
 use Rattle.model.specs.declared.map.Map.{Map}
 use Rattle.model.specs.declared.state.State.{State}

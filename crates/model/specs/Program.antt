@@ -16,7 +16,6 @@ use Rattle.model.specs.declared.state.Reason.{Reason}
 use Rattle.model.specs.declared.event.Answer.{Answer}
 use Rattle.model.specs.declared.refusal.Refusal.{Refusal}
 use Rattle.model.specs.declared.call.Verdict.{Verdict}
-use Rattle.model.specs.declared.call.Reply.{Reply}
 use Rattle.model.specs.declared.call.Close.{Close}
 
 -- ---- words and numbers

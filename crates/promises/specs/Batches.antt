@@ -11,10 +11,10 @@ use Rattle.std.proofs.Math.Bool.{false}
 use Rattle.std.proofs.Math.Numerals.{add-one}
 use Rattle.std.proofs.Math.Dec.{eqb-zero-suc, eqb-suc-suc}
 use Rattle.model.specs.Basics.{if◌then◌else◌}
-use Rattle.model.specs.BasicsLaws.{by_bool}
+use Rattle.model.proofs.BasicsLaws.{by_bool}
 use Rattle.model.specs.Map.{Grid}
 use Rattle.model.specs.Events.{attempt, step, event, run, batch}
-use Rattle.model.specs.EventsLaws.{step_idle, step_acts, deed_answer}
+use Rattle.model.proofs.EventsLaws.{step_idle, step_acts, deed_answer}
 use Rattle.model.specs.declared.map.Map.{Map}
 use Rattle.model.specs.declared.state.State.{State}
 use Rattle.model.specs.declared.event.Event.{Event}

@@ -7,17 +7,17 @@ use Rattle.std.proofs.Common.{ap, ◌∙◌, arith, eqb-true, ne_eqb}
 use Rattle.std.proofs.lemmas.Bool.{eqb-false}
 use Rattle.model.specs.Basics.{if◌then◌else◌}
 use Rattle.model.specs.Map.{Grid, is_domain}
-use Rattle.model.specs.States.{full, context, ready, active_good, start, well_formed, switch}
+use Rattle.model.specs.States.{full, context, ready, active_good, well_formed, switch}
 use Rattle.model.specs.Instructions.{Deed}
 use Rattle.model.specs.Events.{Outcome, sent, perform, attempt, step, tick, word_in, event}
-use Rattle.model.specs.BasicsLaws.{by_bool, either, true_false, and_left}
-use Rattle.model.specs.StatesLaws.{Led, led}
-use Rattle.model.specs.SwitchLaws.{walk, walk_some, walk_on, reach, nearest}
-use Rattle.model.specs.Whole.{whole}
+use Rattle.model.proofs.BasicsLaws.{by_bool, either, true_false, and_left}
+use Rattle.model.specs.StatesLaws.{Led}
+use Rattle.model.proofs.StatesLaws.{led}
+use Rattle.model.specs.SwitchLaws.{walk}
+use Rattle.model.proofs.SwitchLaws.{walk_some, walk_on, reach, nearest}
 use Rattle.model.specs.declared.map.Map.{Map}
 use Rattle.model.specs.declared.state.State.{State}
 use Rattle.model.specs.declared.event.Event.{Event}
-use Rattle.promises.specs.CaseL.{L_map, L_grid, L_memory, L_well_formed}
 
 -- ---- what is counted
 
@@ -147,10 +147,3 @@ fair m g d s memory es f l h r k =
     by_bool (eqb s.active d) (λ t. Meets.now (eqb-true s.active d t))
     (λ t. let n = w.short b (eqb-false s.active d t) in
     fair_from m g d s memory es w.far b w.meets w.whole r (omega arith))
-
--- Case L meets the premises: domain 1 runs, then faults and switches, and domain 2 is ready all the while
-pub L_fair : Meets L_map L_grid 2 (start L_map) L_memory (Event.Step ∷ Event.Step ∷ [])
-unfolding whole deed_switches event_switches run_switches
-L_fair =
-    fair L_map L_grid 2 (start L_map) L_memory (Event.Step ∷ Event.Step ∷ []) L_well_formed (omega arith) (omega arith)
-    (refl, (refl, refl)) (omega arith)

@@ -9,13 +9,15 @@ use Rattle.std.proofs.Common.{sym, ap, ◌∙◌, subst, inl, inr}
 use Rattle.std.proofs.Math.Option.{none, some}
 use Rattle.std.proofs.lemmas.List.Edits.{sets}
 use Rattle.model.specs.Basics.{unless}
-use Rattle.model.specs.BasicsLaws.{by_bool, by_option, either}
+use Rattle.model.proofs.BasicsLaws.{by_bool, by_option, either}
 use Rattle.model.specs.Map.{Grid, is_domain, Rights, rights, lowest}
 use Rattle.model.specs.States.{full, with_status, context, own, put_own, switch}
 use Rattle.model.specs.Instructions.{Plan, Deed, Done, kept, denied, peek, carry, plan}
-use Rattle.model.specs.InstructionsLaws.{Earned, Fits, carry_each, plan_fits}
+use Rattle.model.specs.InstructionsLaws.{Earned, Fits}
+use Rattle.model.proofs.InstructionsLaws.{carry_each, plan_fits}
 use Rattle.model.specs.Events.{Outcome, gives, perform, attempt, tick, word_in, event}
-use Rattle.model.specs.EventsLaws.{acts, step_idle, step_acts}
+use Rattle.model.specs.EventsLaws.{acts}
+use Rattle.model.proofs.EventsLaws.{step_idle, step_acts}
 use Rattle.model.specs.declared.map.Map.{Map}
 use Rattle.model.specs.declared.map.Access.{Access}
 use Rattle.model.specs.declared.state.Reason.{Reason}

@@ -13,13 +13,14 @@ use Rattle.std.proofs.Common.{sym, ap, ◌∙◌, get_or-set_other, eqb-true}
 use mathlib.Core.List.{List, [], ◌∷◌}
 use native.Mathlib.Omega.{arith}
 use Rattle.std.proofs.lemmas.List.Edits.{sets}
-use Rattle.model.specs.BasicsLaws.{by_bool, by_option, either, true_false}
+use Rattle.model.proofs.BasicsLaws.{by_bool, by_option, either, true_false}
 use Rattle.model.specs.Map.{Grid, is_domain, Rights, rights, domain, may, lowest}
-use Rattle.model.specs.MapLaws.{lowest_none, may_read}
+use Rattle.model.proofs.MapLaws.{lowest_none, may_read}
 use Rattle.model.specs.States.{context, own, full}
 use Rattle.model.specs.Instructions.{Plan, Deed, Done, peek, carry, plan}
 use Rattle.model.specs.Events.{Outcome, answer_domain, gives, perform, attempt, step, tick, word_in, event}
-use Rattle.model.specs.EventsLaws.{acts, step_idle, step_acts, deed_answer}
+use Rattle.model.specs.EventsLaws.{acts}
+use Rattle.model.proofs.EventsLaws.{step_idle, step_acts, deed_answer}
 use Rattle.model.specs.declared.map.Map.{Map}
 use Rattle.model.specs.declared.map.Access.{Access}
 use Rattle.model.specs.declared.state.State.{State}

@@ -9,12 +9,14 @@ use Rattle.model.specs.Refusals.{accepts}
 use Rattle.model.specs.States.{full, is_ready, is_waiting, woken, with_status, received, context, own, put_own, start, well_formed, switch}
 use Rattle.model.specs.Instructions.{Deed, plan}
 use Rattle.model.specs.Events.{Outcome, delivered, sent, perform, step, tick, roused, word_in, event, run}
-use Rattle.model.specs.BasicsLaws.{by_bool, either, and_right}
-use Rattle.model.specs.MapLaws.{in_range, granted_domain}
-use Rattle.model.specs.RefusalsLaws.{acceptable}
-use Rattle.model.specs.StatesLaws.{context_same, status_good, received_good, woken_ready}
-use Rattle.model.specs.SoundLaws.{Sound, sound, sound_formed, steady_put, sound_put, sound_switch, sound_roused, start_sound}
-use Rattle.model.specs.InstructionsLaws.{Alike, Fits, carry_each, carry_long, plan_fits, alike_status, alike_good, alike_set}
+use Rattle.model.proofs.BasicsLaws.{by_bool, either, and_right}
+use Rattle.model.proofs.MapLaws.{in_range, granted_domain}
+use Rattle.model.proofs.RefusalsLaws.{acceptable}
+use Rattle.model.proofs.StatesLaws.{context_same, status_good, received_good, woken_ready}
+use Rattle.model.specs.SoundLaws.{Sound}
+use Rattle.model.proofs.SoundLaws.{sound, sound_formed, steady_put, sound_put, sound_switch, sound_roused, start_sound}
+use Rattle.model.specs.InstructionsLaws.{Alike, Fits}
+use Rattle.model.proofs.InstructionsLaws.{carry_each, carry_long, plan_fits, alike_status, alike_good, alike_set}
 use Rattle.model.specs.declared.map.Map.{Map}
 use Rattle.model.specs.declared.state.Status.{Status}
 use Rattle.model.specs.declared.state.Context.{Context}

@@ -1,4 +1,5 @@
 -- The promises over document 01's machine; docs/PROMISES.md is the reader's index.
+-- The theorems of Wider, Ruled and Refused are in proofs/.
 --     CaseL       the paper's example, its map, memory and trace
 --     Edges       the cases marked P
 --     Wider       demand 3

@@ -2,11 +2,12 @@
 -- Assumes nothing.
 use Rattle.std.specs.Prelude.{ℕ, zero, suc, ◌≤◌, ◌≡◌, refl, Bool, true, ◌&&◌, List, [], ◌∷◌, leb, ltb, replicate, take}
 use Rattle.std.proofs.Common.{arith, ltb-true, leb-true}
-use Rattle.model.specs.BasicsLaws.{by_bool, and_left, and_right}
+use Rattle.model.proofs.BasicsLaws.{by_bool, and_left, and_right}
 use Rattle.model.specs.Map.{region, absent, inside, Grid, no_grid, domain, is_domain, may, granted}
-use Rattle.model.specs.MapLaws.{inside_from, inside_below, inside_between}
+use Rattle.model.proofs.MapLaws.{inside_from, inside_below, inside_between}
 use Rattle.model.specs.Sheet.{mark, sheet_bytes}
-use Rattle.model.specs.GridLaws.{Shaped, no_grid_square, mark_square}
+use Rattle.model.specs.GridLaws.{Shaped}
+use Rattle.model.proofs.GridLaws.{no_grid_square, mark_square}
 use Rattle.model.specs.RecordLaws.{Octets}
 use Rattle.model.specs.States.{start}
 use Rattle.model.specs.Whole.{whole}

@@ -9,15 +9,20 @@ use Rattle.std.proofs.Math.Path.{ap}
 use mathlib.Core.List.{List, ◌++◌}
 use Rattle.std.proofs.lemmas.List.{get_or-replicate}
 use Rattle.model.specs.Basics.{bytes, number}
-use Rattle.model.specs.BasicsLaws.{and_left, and_right, and_both, number_bytes}
+use Rattle.model.proofs.BasicsLaws.{and_left, and_right, and_both, number_bytes}
 use Rattle.model.specs.Map.{most, absent, Grid}
 use Rattle.model.specs.Refusals.{check, sized, within, accepts}
-use Rattle.model.specs.RefusalsLaws.{check_true, Acceptable, acceptable, accept}
+use Rattle.model.specs.RefusalsLaws.{Acceptable}
+use Rattle.model.proofs.RefusalsLaws.{check_true, acceptable, accept}
 use Rattle.model.specs.Sheet.{Found, kernel_read, length_read, one_record, length_record, region_bytes, kernel_record, region_of, beginning_map, domain_records, domains_read, sheet_bytes, sheet_read}
-use Rattle.model.specs.GridLaws.{Shaped, channel_most}
-use Rattle.model.specs.ChannelLaws.{closing, judged_known}
-use Rattle.model.specs.RecordLaws.{within_narrow, region_back, body_present, record_known, Octets, octets_drop, length_spelt, kernel_spelt}
-use Rattle.model.specs.SheetLaws.{sheet_length, Reading, entries_good, domains_back, Domained, domains_known}
+use Rattle.model.specs.GridLaws.{Shaped}
+use Rattle.model.proofs.GridLaws.{channel_most}
+use Rattle.model.specs.ChannelLaws.{closing}
+use Rattle.model.proofs.ChannelLaws.{judged_known}
+use Rattle.model.specs.RecordLaws.{Octets}
+use Rattle.model.proofs.RecordLaws.{within_narrow, region_back, body_present, record_known, octets_drop, length_spelt, kernel_spelt}
+use Rattle.model.specs.SheetLaws.{Reading, Domained}
+use Rattle.model.proofs.SheetLaws.{sheet_length, entries_good, domains_back, domains_known}
 use Rattle.model.specs.declared.map.Region.{Region}
 use Rattle.model.specs.declared.map.Map.{Map}
 use Rattle.model.specs.declared.refusal.Refusal.{Refusal}

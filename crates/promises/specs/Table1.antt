@@ -7,11 +7,12 @@
 -- Assumes nothing.
 use Rattle.std.specs.Prelude.{ℕ, ◌-◌, ◌≤◌, ◌<◌, ◌≡◌, true, false, not, ◌≢◌, ◌⊎◌, ltb}
 use Rattle.std.proofs.Common.{⊎_elim, arith, ltb-true, ltb-false}
-use Rattle.model.specs.BasicsLaws.{by_bool, and_left, and_right}
+use Rattle.model.proofs.BasicsLaws.{by_bool, and_left, and_right}
 use Rattle.model.specs.Map.{inside, overlaps, Grid, domain, may}
-use Rattle.model.specs.MapLaws.{apart, overlaps_swap, may_read}
+use Rattle.model.proofs.MapLaws.{apart, overlaps_swap, may_read}
 use Rattle.model.specs.Refusals.{free_of, accepts}
-use Rattle.model.specs.RefusalsLaws.{acceptable, Placed, placed, clear_kernel, clear_domain}
+use Rattle.model.specs.RefusalsLaws.{Placed}
+use Rattle.model.proofs.RefusalsLaws.{acceptable, placed, clear_kernel, clear_domain}
 use Rattle.model.specs.declared.map.Region.{Region}
 use Rattle.model.specs.declared.map.Domain.{Domain}
 use Rattle.model.specs.declared.map.Map.{Map}

@@ -6,7 +6,7 @@
 use Rattle.std.specs.Prelude.{ℕ, zero, suc, ◌+◌, ◌*◌, ◌≡◌, refl, ◌⊎◌, Bool, true, false, ◌&&◌, ◌||◌, not, List, [], ◌∷◌, ◌++◌, leb, eqb, length, take, drop, get_or}
 use Rattle.std.proofs.Common.{ap, inl, inr}
 use Rattle.model.specs.Basics.{if◌then◌else◌, number as number_at}
-use Rattle.model.specs.BasicsLaws.{by_bool}
+use Rattle.model.proofs.BasicsLaws.{by_bool}
 use Rattle.model.specs.Map.{most, inside, overlaps, nth, Grid, is_domain}
 use Rattle.model.specs.Refusals.{counted, unused_zero, sized, within, clear, channels_good}
 use Rattle.model.specs.Sheet.{sheet_bytes, place, rising, region_of, domain_of, with_domain, beginning_map}

@@ -5,7 +5,7 @@
 -- Assumes nothing.
 use Rattle.std.specs.Prelude.{ℕ, zero, suc, ◌+◌, ◌*◌, ◌/◌, ◌%◌, ◌≤◌, ◌≡◌, refl, List, [], ◌∷◌, ◌++◌, ltb, length, drop}
 use Rattle.std.proofs.Common.{ap, arith, length-append}
-use Rattle.model.specs.BasicsLaws.{by_bool}
+use Rattle.model.proofs.BasicsLaws.{by_bool}
 use Rattle.model.specs.Map.{Grid}
 use Rattle.model.specs.Sheet.{Found, sheet_bytes, sheet_read}
 use Rattle.model.specs.States.{reason_number, start}

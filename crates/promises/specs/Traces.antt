@@ -6,10 +6,10 @@
 use Rattle.std.specs.Prelude.{ℕ, zero, suc, ◌+◌, ◌^◌, ◌<◌, ◌≡◌, refl, ◌⊎◌, List, [], ◌∷◌, ◌++◌, leb, eqb, length, drop}
 use Rattle.std.proofs.Common.{sym, ap, ◌∙◌, inl, inr, add-zero, zero-add, arith, le-leb}
 use Rattle.model.specs.Basics.{bytes}
-use Rattle.model.specs.BasicsLaws.{number_bytes, either}
+use Rattle.model.proofs.BasicsLaws.{number_bytes, either}
 use Rattle.model.specs.Refusals.{refusal_number}
 use Rattle.model.specs.Events.{Trace, ended, follow, event_read, next, trace, trace_of}
-use Rattle.model.specs.TraceLaws.{trace_whole, trace_broken}
+use Rattle.model.proofs.TraceLaws.{trace_whole, trace_broken}
 use Rattle.model.specs.declared.event.Event.{Event}
 use Rattle.model.specs.declared.event.EventRead.{EventRead}
 use Rattle.model.specs.declared.refusal.Refusal.{Refusal}

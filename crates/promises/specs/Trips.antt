@@ -9,10 +9,10 @@ use Rattle.std.proofs.Common.{sym, ◌∙◌, arith, leb-true, le-leb}
 use Rattle.std.proofs.Math.Seq.{take_at}
 use Rattle.model.specs.Map.{Grid}
 use Rattle.model.specs.Refusals.{check, ◌▸◌, accepts}
-use Rattle.model.specs.RefusalsLaws.{check_true, then_left, then_right}
-use Rattle.model.specs.TestLaws.{then_pass}
+use Rattle.model.proofs.RefusalsLaws.{check_true, then_left, then_right}
+use Rattle.model.proofs.TestLaws.{then_pass}
 use Rattle.model.specs.Sheet.{Found, sheet_bytes, sheet_read}
-use Rattle.model.specs.SheetLaws.{sheet_length}
+use Rattle.model.proofs.SheetLaws.{sheet_length}
 use Rattle.model.specs.GridLaws.{Shaped, channel_count}
 use Rattle.model.specs.RecordLaws.{Octets}
 use Rattle.model.specs.Calls.{left, reader, written, writer}

@@ -7,7 +7,7 @@ use mathlib.Core.Bool.{Bool, true, false, ◌&&◌, not}
 use Rattle.model.specs.Map.{most, inside, overlaps, Grid, is_domain, domain, may}
 use Rattle.model.specs.Refusals.{check, ◌▸◌, counted, unused_zero, sized, within, clear, domain_verdict, domains_verdict, map_verdict, accepts}
 use Rattle.model.specs.Calls.{permission, named, question}
-use Rattle.model.specs.TestLaws.{check_pass, check_stop, then_pass, then_stop, check_two, check_last}
+use Rattle.model.proofs.TestLaws.{check_pass, check_stop, then_pass, then_stop, check_two, check_last}
 use Rattle.model.specs.declared.map.Domain.{Domain}
 use Rattle.model.specs.declared.map.Map.{Map}
 use Rattle.model.specs.declared.map.Access.{Access}

@@ -9,10 +9,10 @@ use Rattle.std.proofs.Math.Path.{refl, ap}
 use Rattle.std.proofs.Common.{◌∙◌, arith, length-drop, le-leb, ne_eqb}
 use mathlib.Core.List.{List, [], ◌∷◌}
 use Rattle.model.specs.Basics.{if◌then◌else◌}
-use Rattle.model.specs.BasicsLaws.{and_both}
+use Rattle.model.proofs.BasicsLaws.{and_both}
 use Rattle.model.specs.Map.{Grid}
 use Rattle.model.specs.Refusals.{check, is_channel}
-use Rattle.model.specs.GridLaws.{channel_ends}
+use Rattle.model.proofs.GridLaws.{channel_ends}
 use Rattle.model.specs.Sheet.{Found, finish, judged, place, rising, mark, channels_read}
 use Rattle.model.specs.declared.map.Map.{Map}
 use Rattle.model.specs.declared.refusal.Refusal.{Refusal}

@@ -6,7 +6,7 @@
 use Rattle.std.specs.Prelude.{ℕ, ◌+◌, ◌≤◌, ◌<◌, ◌≡◌, refl, List, [], ◌∷◌, ◌++◌, leb, length, set, take, drop}
 use Rattle.std.proofs.Common.{sym, ap, ◌∙◌, append_assoc, append-nil, add_assoc, add-zero, zero-add, add-one, arith, length-append, take-append-drop, drop_of_length-le, length-take-le, take_all, take_at, drop_at, drop-drop, leb-true, leb-false}
 use Rattle.std.proofs.lemmas.List.{set_split}
-use Rattle.model.specs.BasicsLaws.{by_bool}
+use Rattle.model.proofs.BasicsLaws.{by_bool}
 use Rattle.sheet.specs.Laid.{laid, Laid}
 
 pub laid_none : (at : ℕ) (b : List ℕ) → Laid at [] b at b

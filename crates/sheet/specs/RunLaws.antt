@@ -4,7 +4,7 @@
 -- Assumes nothing.
 use Rattle.std.specs.Prelude.{ℕ, zero, suc, ◌+◌, ◌-◌, ◌≤◌, ◌<◌, ◌≡◌, true, ◌++◌, length}
 use Rattle.std.proofs.Common.{add-zero, zero-add, suc-add, arith, length-append}
-use Rattle.model.specs.BasicsLaws.{by_bool}
+use Rattle.model.proofs.BasicsLaws.{by_bool}
 use Rattle.model.specs.Map.{Grid}
 use Rattle.model.specs.Refusals.{cell}
 use Rattle.model.specs.Sheet.{domain_records, channel_records}

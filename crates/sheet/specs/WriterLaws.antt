@@ -8,9 +8,9 @@ use Rattle.model.specs.Map.{Grid}
 use Rattle.model.specs.Refusals.{accepts}
 use Rattle.model.specs.Sheet.{sheet_bytes}
 use Rattle.model.specs.Calls.{left, writer}
-use Rattle.model.specs.TestLaws.{then_pass, then_stop}
+use Rattle.model.proofs.TestLaws.{then_pass, then_stop}
 use Rattle.model.specs.GridLaws.{channel_count}
-use Rattle.model.specs.SheetLaws.{sheet_length}
+use Rattle.model.proofs.SheetLaws.{sheet_length}
 use Rattle.model.specs.declared.map.Map.{Map}
 use Rattle.model.specs.declared.refusal.Refusal.{Refusal}
 use Rattle.model.specs.declared.call.Verdict.{Verdict}

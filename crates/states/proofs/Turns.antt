@@ -9,7 +9,7 @@ use native.Mathlib.Omega.{arith}
 use lib.Dec.{ltb, eqb}
 use lib.ListN.{get_or, set, replicate}
 use Rattle.model.specs.Basics.{if◌then◌else◌}
-use Rattle.model.specs.LoopLaws.{back}
+use Rattle.model.proofs.LoopLaws.{back}
 use Rattle.model.specs.Map.{most, nth}
 use Rattle.model.specs.States.{blank, missing, at_entry, is_ready, ready, seated, start, any_ready, context_good, zeros, is_blank, contexts_good, after, first_ready}
 use Rattle.model.specs.declared.map.Map.{Map}

@@ -8,10 +8,10 @@ use Prim.Native.Nat.{ℕ, zero, suc, ◌-◌, ◌≤◌, ◌<◌}
 use Rattle.std.specs.Prelude.{◌≡◌, true, false, List, [], length, get_or}
 use Rattle.std.proofs.Math.Path.{refl, ap}
 use Rattle.std.proofs.Common.{sym, ◌∙◌, arith}
-use Rattle.model.specs.BasicsLaws.{by_bool}
+use Rattle.model.proofs.BasicsLaws.{by_bool}
 use Rattle.model.specs.Map.{Grid, domain}
 use Rattle.model.specs.States.{full, is_ready, set_register, received, context, put, ready, after, with_active}
-use Rattle.model.specs.StatesLaws.{context_same, put_long}
+use Rattle.model.proofs.StatesLaws.{context_same, put_long}
 use Rattle.model.specs.Instructions.{Deed, kept}
 use Rattle.model.specs.Events.{perform}
 use Rattle.model.specs.EventsLaws.{acts}

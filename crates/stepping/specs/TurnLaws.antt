@@ -9,9 +9,9 @@ use Rattle.std.proofs.Math.Path.{refl, ap}
 use Rattle.std.proofs.Common.{sym, ◌∙◌, arith}
 use Rattle.std.proofs.Math.Bool.{true}
 use Rattle.std.proofs.Math.ListN.{length}
-use Rattle.model.specs.LoopLaws.{back}
+use Rattle.model.proofs.LoopLaws.{back}
 use Rattle.model.specs.States.{full, is_ready, set_register, received, own, put_own, context, put, ready, after, first_ready, switch, with_active}
-use Rattle.model.specs.StatesLaws.{context_same, ready_put, woken_ready, put_long}
+use Rattle.model.proofs.StatesLaws.{context_same, ready_put, woken_ready, put_long}
 use Rattle.model.specs.Instructions.{Deed}
 use Rattle.model.specs.Events.{gives, sent, perform}
 use Rattle.model.specs.declared.state.Context.{Context}

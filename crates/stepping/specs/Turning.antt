@@ -5,13 +5,13 @@ use Rattle.std.proofs.Math.Path.{sym}
 use Rattle.std.proofs.Common.{subst, ◌∙◌, arith, set-set}
 use borrow.Author.Tests.{eqb-true, eqb-false}
 use Rattle.model.specs.Basics.{if◌then◌else◌}
-use Rattle.model.specs.BasicsLaws.{by_bool, and_left}
+use Rattle.model.proofs.BasicsLaws.{by_bool, and_left}
 use Rattle.model.specs.Map.{most, Grid, is_domain, domain}
-use Rattle.model.specs.MapLaws.{in_range}
+use Rattle.model.proofs.MapLaws.{in_range}
 use Rattle.model.specs.States.{full, with_counter, with_status, received, context, put, ready, after, with_active}
-use Rattle.model.specs.StatesLaws.{each_put, put_long}
+use Rattle.model.proofs.StatesLaws.{each_put, put_long}
 use Rattle.model.specs.SoundLaws.{Sound}
-use Rattle.model.specs.SwitchLaws.{after_some, after_within}
+use Rattle.model.proofs.SwitchLaws.{after_some, after_within}
 use Rattle.model.specs.Instructions.{Deed, take_into}
 use Rattle.model.specs.declared.map.Map.{Map}
 use Rattle.model.specs.declared.state.Status.{Status}

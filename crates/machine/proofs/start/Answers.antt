@@ -1,6 +1,6 @@
 -- `machine::start` meets its contract. Each exit is a law of the start; an acceptable map has at most eight domains.
 use mathlib.Core.Path.{sym, ◌∙◌}
-use Rattle.model.specs.RefusalsLaws.{acceptable}
+use Rattle.model.proofs.RefusalsLaws.{acceptable}
 use Rattle.machine.proofs.Exits.{start_refused, start_ready}
 use Rattle.machine.proofs.start.Goals as goal
 

@@ -1,7 +1,7 @@
 -- `rights::acceptable` meets its contract. The map's verdict comes first, then 7 over the grid.
 use mathlib.Core.Path.{sym, ◌∙◌}
 use Rattle.model.specs.Refusals.{accepts}
-use Rattle.model.specs.TestLaws.{then_pass, then_stop}
+use Rattle.model.proofs.TestLaws.{then_pass, then_stop}
 use Rattle.rights.proofs.acceptable.Goals as goal
 
 pub returns-in-Refused : goal.returns-in-Refused

@@ -1,5 +1,5 @@
 -- `rights::map_verdict` meets its contract. Each exit is a law of a map's tests; the count that has passed is at most eight.
-use Rattle.model.specs.TestLaws.{and_equal}
+use Rattle.model.proofs.TestLaws.{and_equal}
 use Rattle.rights.proofs.Exits.{map_kind, map_length, map_kernel, map_domains}
 use Rattle.rights.proofs.map_verdict.Goals as goal
 

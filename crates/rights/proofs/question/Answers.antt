@@ -1,8 +1,8 @@
 -- `rights::question` meets its contract. Each exit is a law of the question; a domain of an acceptable map is one of its eight entries.
 use mathlib.Core.Path.{sym, ◌∙◌}
 use native.Mathlib.Omega.{arith}
-use Rattle.model.specs.MapLaws.{in_range}
-use Rattle.model.specs.RefusalsLaws.{acceptable}
+use Rattle.model.proofs.MapLaws.{in_range}
+use Rattle.model.proofs.RefusalsLaws.{acceptable}
 use Rattle.rights.proofs.Exits.{ask_refused, ask_nobody, ask_answered}
 use Rattle.rights.proofs.question.Goals as goal
 

@@ -3,7 +3,7 @@
 use mathlib.Core.Path.{sym}
 use native.Mathlib.Omega.{arith}
 use borrow.Author.Rules.{rules}
-use Rattle.model.specs.RefusalsLaws.{acceptable}
+use Rattle.model.proofs.RefusalsLaws.{acceptable}
 use Rattle.sheet.specs.WriterLaws.{writer_refused, writer_long, writer_wrote}
 use Rattle.sheet.proofs.write.Goals as goal
 

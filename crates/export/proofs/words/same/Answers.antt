@@ -1,7 +1,7 @@
 -- `export::words::same` meets its contract. The loop's invariant: the first i words decide as all n do. The measure is i.
 use mathlib.Core.Path.{◌≡◌, refl, sym, ◌∙◌}
 use native.Mathlib.Omega.{arith}
-use Rattle.model.specs.LoopLaws.{spent}
+use Rattle.model.proofs.LoopLaws.{spent}
 use Rattle.export.specs.Words.{alike}
 use Rattle.export.specs.WordsLaws.{alike_stop, alike_on}
 use Rattle.export.proofs.words.same.Goals as goal

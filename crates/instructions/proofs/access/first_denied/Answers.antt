@@ -1,7 +1,7 @@
 -- `instructions::access::first_denied` meets its contract. All of the access is in its home, or the loop looks: the loop's invariant: the lowest denied of the addresses left is the
 -- lowest of all. The measure is the number left.
 use Rattle.std.proofs.Common.{sym, refl, ◌∙◌, arith}
-use Rattle.model.specs.LoopLaws.{spent}
+use Rattle.model.proofs.LoopLaws.{spent}
 use Rattle.model.specs.Map.{lowest}
 use Rattle.instructions.specs.Home.{home_covers}
 use Rattle.instructions.specs.AccessLaws.{lowest_on, lowest_here}

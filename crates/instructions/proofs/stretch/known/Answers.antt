@@ -2,7 +2,7 @@
 use Rattle.std.proofs.Common.{◌≡◌, ℕ, ◌≤◌, Bool, true, List, slice_index, arith}
 use Rattle.model.specs.Map.{most, inside}
 use Rattle.model.specs.declared.map.Domain.{Domain}
-use Rattle.model.specs.MapLaws.{inside_below}
+use Rattle.model.proofs.MapLaws.{inside_below}
 use Rattle.instructions.specs.OneLaws.{suspect_first, suspect_second, Fetched, one_body, one_register, one_works}
 use Rattle.instructions.proofs.stretch.known.Goals as goal
 

@@ -1,7 +1,7 @@
 -- `instructions::work::send` meets its contract. Its two tests are the definition's; a domain has its mark in the row.
 use Rattle.std.proofs.Common.{◌≤◌, sym, ◌∙◌, arith}
-use Rattle.model.specs.MapLaws.{in_range}
-use Rattle.model.specs.TestLaws.{and_pass, and_stop}
+use Rattle.model.proofs.MapLaws.{in_range}
+use Rattle.model.proofs.TestLaws.{and_pass, and_stop}
 use Rattle.instructions.proofs.work.send.Goals as goal
 
 -- past the first test, t is a domain

@@ -3,7 +3,7 @@
 use Rattle.std.proofs.Common.{◌≡◌, ℕ, ◌+◌, ◌-◌, ◌%◌, ◌^◌, nat_eq, nat_lt, Bool, List, [], ◌∷◌, get_or, slice_index, refl, ap, arith}
 use lib.Bits.{bit_and, bit_or, bit_xor}
 use Rattle.model.specs.Basics.{if◌then◌else◌, bytes, number, half}
-use Rattle.model.specs.BasicsLaws.{by_bool}
+use Rattle.model.proofs.BasicsLaws.{by_bool}
 use Rattle.model.specs.Instructions.{byte_r, in_r, work, peek, carry}
 use Rattle.model.specs.declared.map.Domain.{Domain}
 use Rattle.model.specs.declared.state.Reason.{Reason}

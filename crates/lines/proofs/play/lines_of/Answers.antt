@@ -10,7 +10,7 @@ use mir.Val.{Fits}
 use Rattle.model.specs.Map.{Grid}
 use Rattle.model.specs.Refusals.{accepts}
 use Rattle.model.specs.Events.{event_read}
-use Rattle.model.specs.TraceLaws.{rest_read, rest_takes}
+use Rattle.model.proofs.TraceLaws.{rest_read, rest_takes}
 use Rattle.model.specs.Calls.{left, starter}
 use Rattle.model.specs.Program.{of_trace, shown}
 use Rattle.model.specs.declared.map.Map.{Map}

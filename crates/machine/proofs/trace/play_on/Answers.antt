@@ -8,7 +8,7 @@ use lib.ListN.{length, drop}
 use Rattle.model.specs.Map.{Grid}
 use Rattle.model.specs.SoundLaws.{Sound}
 use Rattle.model.specs.Events.{Outcome, gives, event, event_read}
-use Rattle.model.specs.TraceLaws.{rest_read, rest_takes}
+use Rattle.model.proofs.TraceLaws.{rest_read, rest_takes}
 use Rattle.model.specs.Calls.{left}
 use Rattle.model.specs.declared.map.Map.{Map}
 use Rattle.model.specs.declared.state.State.{State}

@@ -1,6 +1,6 @@
 -- `machine::verdict::lent` meets its contract. The map and grid come first, then 9 over the memory.
 use mathlib.Core.Path.{sym, ◌∙◌}
-use Rattle.model.specs.TestLaws.{then_pass, then_stop}
+use Rattle.model.proofs.TestLaws.{then_pass, then_stop}
 use Rattle.machine.proofs.verdict.lent.Goals as goal
 
 pub returns-in-Refused : goal.returns-in-Refused

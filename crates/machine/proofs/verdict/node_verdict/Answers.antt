@@ -1,6 +1,6 @@
 -- `machine::verdict::node_verdict` meets its contract. Each exit is a law of the two verdicts; the last test is 13.
 use mathlib.Core.Path.{sym, ◌∙◌}
-use Rattle.model.specs.RefusalsLaws.{then_left, acceptable}
+use Rattle.model.proofs.RefusalsLaws.{then_left, acceptable}
 use Rattle.machine.proofs.Exits.{node_tests, tests_refused, tests_last}
 use Rattle.machine.proofs.verdict.node_verdict.Goals as goal
 

@@ -1,14 +1,14 @@
 -- `rights::channel::channels_good` meets its contract. The loop's invariant: the cells from p on decide as all do. The measure
 -- is the number of cells left.
 use Prim.Native.Nat.{◌*◌, ◌-◌}
-use mathlib.Core.Path.{◌≡◌, refl, sym, ◌∙◌, ap}
+use mathlib.Core.Path.{refl, sym, ◌∙◌, ap}
 use mathlib.Core.Bool.{not}
 use native.Mathlib.Nat.{sub-zero}
 use native.Mathlib.Omega.{arith}
 use Rattle.model.specs.Map.{most}
 use Rattle.model.specs.Refusals.{channels_good}
-use Rattle.model.specs.LoopLaws.{fewer, passed}
-use Rattle.model.specs.TestLaws.{and_pass, and_stop}
+use Rattle.model.proofs.LoopLaws.{fewer, passed}
+use Rattle.model.proofs.TestLaws.{and_pass, and_stop}
 use Rattle.rights.proofs.Turns.{channels_turn}
 use Rattle.rights.proofs.channel.channels_good.Goals as goal
 

@@ -1,11 +1,11 @@
 -- `rights::domain::clear` meets its contract. The loop's invariant: the first n domains, with the kernel, decide as the first i
 -- do. The measure is n.
-use mathlib.Core.Path.{◌≡◌, refl, sym, ap, ◌∙◌}
+use mathlib.Core.Path.{refl, sym, ap, ◌∙◌}
 use mathlib.Core.Bool.{not}
 use native.Mathlib.Omega.{arith}
 use Rattle.model.specs.Refusals.{clear}
-use Rattle.model.specs.LoopLaws.{spent}
-use Rattle.model.specs.TestLaws.{and_pass, and_stop}
+use Rattle.model.proofs.LoopLaws.{spent}
+use Rattle.model.proofs.TestLaws.{and_pass, and_stop}
 use Rattle.rights.proofs.Turns.{clear_turn}
 use Rattle.rights.proofs.domain.clear.Goals as goal
 

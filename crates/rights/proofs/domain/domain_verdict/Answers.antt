@@ -1,7 +1,7 @@
 -- `rights::domain::domain_verdict` meets its contract. Each exit is a law of a domain's tests.
 use mathlib.Core.Path.{ap}
 use mathlib.Core.Bool.{not}
-use Rattle.model.specs.TestLaws.{and_equal}
+use Rattle.model.proofs.TestLaws.{and_equal}
 use Rattle.rights.proofs.Exits.{domain_bounds, domain_entry, domain_last}
 use Rattle.rights.proofs.domain.domain_verdict.Goals as goal
 

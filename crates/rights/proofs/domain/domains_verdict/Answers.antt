@@ -1,12 +1,12 @@
 -- `rights::domain::domains_verdict` meets its contract. The loop's invariant: the domains from i on decide as all do. The
 -- measure is the number of domains left.
 use Prim.Native.Nat.{◌-◌}
-use mathlib.Core.Path.{◌≡◌, sym, ◌∙◌}
+use mathlib.Core.Path.{sym, ◌∙◌}
 use native.Mathlib.Nat.{sub-zero}
 use native.Mathlib.Omega.{arith}
 use Rattle.model.specs.Refusals.{domains_verdict}
-use Rattle.model.specs.LoopLaws.{fewer, passed}
-use Rattle.model.specs.TestLaws.{then_pass, then_stop}
+use Rattle.model.proofs.LoopLaws.{fewer, passed}
+use Rattle.model.proofs.TestLaws.{then_pass, then_stop}
 use Rattle.rights.proofs.Turns.{domains_turn}
 use Rattle.rights.proofs.domain.domains_verdict.Goals as goal
 

@@ -1,11 +1,11 @@
 -- `rights::domain::unused_zero` meets its contract. The loop's invariant: the first n entries decide as all eight do. The
 -- measure is n.
-use mathlib.Core.Path.{◌≡◌, refl, sym, ◌∙◌, ap}
+use mathlib.Core.Path.{refl, sym, ◌∙◌, ap}
 use mathlib.Core.Bool.{not}
 use native.Mathlib.Omega.{arith}
 use Rattle.model.specs.Refusals.{unused_zero}
-use Rattle.model.specs.LoopLaws.{spent}
-use Rattle.model.specs.TestLaws.{and_pass, and_stop}
+use Rattle.model.proofs.LoopLaws.{spent}
+use Rattle.model.proofs.TestLaws.{and_pass, and_stop}
 use Rattle.rights.proofs.Turns.{unused_turn}
 use Rattle.rights.proofs.domain.unused_zero.Goals as goal
 

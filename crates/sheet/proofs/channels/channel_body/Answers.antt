@@ -3,8 +3,8 @@
 use mathlib.Core.Path.{sym, ◌∙◌}
 use borrow.Author.Tests.{lt-leb}
 use native.Mathlib.Omega.{arith}
-use Rattle.model.specs.GridLaws.{channel_ends}
-use Rattle.model.specs.TestLaws.{and_pass, and_stop}
+use Rattle.model.proofs.GridLaws.{channel_ends}
+use Rattle.model.proofs.TestLaws.{and_pass, and_stop}
 use Rattle.sheet.specs.ChannelReadLaws.{body_cut, no_channel, channel}
 use Rattle.sheet.proofs.channels.channel_body.Goals as goal
 

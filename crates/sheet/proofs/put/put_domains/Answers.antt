@@ -5,7 +5,7 @@ use native.Mathlib.Nat.{zero-add}
 use native.Mathlib.Omega.{arith}
 use borrow.Author.Rules.{rules}
 use Rattle.model.specs.Sheet.{domain_records}
-use Rattle.model.specs.SheetLaws.{domains_length}
+use Rattle.model.proofs.SheetLaws.{domains_length}
 use Rattle.sheet.specs.LaidLaws.{laid_none, laid_then}
 use Rattle.sheet.specs.RunLaws.{domains_split}
 use Rattle.sheet.proofs.put.put_domains.Goals as goal

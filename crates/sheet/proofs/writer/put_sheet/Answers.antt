@@ -3,7 +3,7 @@
 use native.Mathlib.Omega.{arith}
 use lib.ListN.{length-append}
 use Rattle.model.specs.Sheet.{sheet_bytes}
-use Rattle.model.specs.SheetLaws.{sheet_length}
+use Rattle.model.proofs.SheetLaws.{sheet_length}
 use Rattle.sheet.specs.LaidLaws.{laid_then}
 use Rattle.sheet.proofs.writer.put_sheet.Goals as goal
 

@@ -1,7 +1,7 @@
 -- `states::event::word_in` meets its contract. Each exit is a law of the definition; a domain is one of the eight places.
 use mathlib.Core.Path.{sym, ◌∙◌}
 use native.Mathlib.Omega.{arith}
-use Rattle.model.specs.MapLaws.{in_range}
+use Rattle.model.proofs.MapLaws.{in_range}
 use Rattle.states.proofs.Exits.{word_nobody, word_full, word_wakes, word_taken}
 use Rattle.states.proofs.event.word_in.Goals as goal
 

@@ -1,7 +1,7 @@
 -- `states::good::any_ready` meets its contract. The loop's invariant: the first n domains decide as all do. The measure is n.
 use mathlib.Core.Path.{◌≡◌, refl, sym, ◌∙◌}
 use native.Mathlib.Omega.{arith}
-use Rattle.model.specs.LoopLaws.{spent}
+use Rattle.model.proofs.LoopLaws.{spent}
 use Rattle.model.specs.States.{any_ready}
 use Rattle.states.proofs.Turns.{any_found, any_on}
 use Rattle.states.proofs.good.any_ready.Goals as goal

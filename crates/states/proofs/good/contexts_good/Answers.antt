@@ -2,9 +2,9 @@
 -- measure is n.
 use mathlib.Core.Path.{◌≡◌, refl, sym, ◌∙◌}
 use native.Mathlib.Omega.{arith}
-use Rattle.model.specs.LoopLaws.{spent}
+use Rattle.model.proofs.LoopLaws.{spent}
 use Rattle.model.specs.States.{contexts_good}
-use Rattle.model.specs.TestLaws.{and_pass, and_stop}
+use Rattle.model.proofs.TestLaws.{and_pass, and_stop}
 use Rattle.states.proofs.Turns.{contexts_turn}
 use Rattle.states.proofs.good.contexts_good.Goals as goal
 

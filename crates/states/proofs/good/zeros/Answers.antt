@@ -2,9 +2,9 @@
 use mathlib.Core.Path.{◌≡◌, refl, sym, ◌∙◌}
 use native.Mathlib.Omega.{arith}
 use borrow.Author.Tests.{eq-eqb, ne_eqb}
-use Rattle.model.specs.LoopLaws.{spent}
+use Rattle.model.proofs.LoopLaws.{spent}
 use Rattle.model.specs.States.{zeros}
-use Rattle.model.specs.TestLaws.{and_pass, and_stop}
+use Rattle.model.proofs.TestLaws.{and_pass, and_stop}
 use Rattle.states.proofs.Turns.{zeros_turn}
 use Rattle.states.proofs.good.zeros.Goals as goal
 

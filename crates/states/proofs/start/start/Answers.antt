@@ -4,7 +4,7 @@ use Prim.Native.Nat.{◌-◌}
 use mathlib.Core.Path.{◌≡◌, refl, sym, ◌∙◌}
 use native.Mathlib.Nat.{sub-zero}
 use native.Mathlib.Omega.{arith}
-use Rattle.model.specs.LoopLaws.{fewer}
+use Rattle.model.proofs.LoopLaws.{fewer}
 use Rattle.states.proofs.Turns.{seated_turn, seated_all}
 use Rattle.states.proofs.start.start.Goals as goal
 

@@ -4,7 +4,7 @@ use Prim.Native.Nat.{◌≤◌}
 use mathlib.Core.Path.{◌≡◌, refl, sym, ◌∙◌}
 use native.Mathlib.Omega.{arith}
 use Rattle.model.specs.States.{first_ready}
-use Rattle.model.specs.SwitchLaws.{after_some, after_within}
+use Rattle.model.proofs.SwitchLaws.{after_some, after_within}
 use Rattle.states.proofs.Turns.{first_found, first_on}
 use Rattle.states.proofs.switch.first_ready.Goals as goal
 

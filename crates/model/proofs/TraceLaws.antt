@@ -8,7 +8,7 @@
 use Rattle.std.specs.Prelude.{ℕ, zero, suc, ◌+◌, ◌-◌, ◌≤◌, ◌<◌, ◌≡◌, refl, List, [], ◌∷◌, leb, eqb, length, take, drop}
 use Rattle.std.proofs.Common.{sym, ap, ◌∙◌, arith, length-drop, drop_of_length-le, drop-cons, drop-drop, leb-true}
 use borrow.Author.Rules.{part_to_end}
-use Rattle.model.specs.BasicsLaws.{by_bool}
+use Rattle.model.proofs.BasicsLaws.{by_bool}
 use Rattle.model.specs.Events.{event_read, Trace, ended, follow, next, trace, trace_of}
 use Rattle.model.specs.declared.event.Event.{Event}
 use Rattle.model.specs.declared.event.EventRead.{EventRead}

@@ -6,7 +6,7 @@ use Rattle.std.proofs.Common.{sym, ◌∙◌, inl, inr}
 use Rattle.std.proofs.Math.Option.{none, some}
 use native.Mathlib.Omega.{arith}
 use borrow.Author.Tests.{ltb-true, ltb-false, leb-true, lt-ltb, le-leb}
-use Rattle.model.specs.BasicsLaws.{by_bool, none_some, and_left, and_right, and_both}
+use Rattle.model.proofs.BasicsLaws.{by_bool, none_some, and_left, and_right, and_both}
 use Rattle.model.specs.Map.{inside, filled, overlaps, Grid, is_domain, may, granted, lowest}
 use Rattle.model.specs.declared.map.Region.{Region}
 use Rattle.model.specs.declared.map.Domain.{Domain}
