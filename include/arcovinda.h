@@ -1,4 +1,4 @@
-/* Arcovinda for C: the functions of the static library that `rt staticlib export` writes to target/staticlib/libexport.a.
+/* Arcovinda for C: the functions of the static library that `bash example/library` writes to target/staticlib/libexport.a.
 
    A block below is plain 32-bit numbers, so a struct of them is the block. No function asks its caller to have looked first: every
    block, memory, trace, buffer and number gets an answer. A function returns document 01's refusal number, or 0 where nothing is

@@ -1,5 +1,6 @@
-// Arcovinda for C: include/arcovinda.h declares these functions and says what each is for. A block that C lends is words; each function reads
-// what the words are, makes the call, and sets what the call's result comes to. No function asks its caller to have looked first.
+// Arcovinda for C: include/arcovinda.h declares these functions and says what each is for; crate export_c exports them. A block that C lends is
+// words; each function reads what the words are, makes the call, and sets what the call's result comes to. No function asks its caller to have
+// looked first.
 #![tactic(auto)]
 
 mod answer;
@@ -34,13 +35,7 @@ use model::call::Verdict;
 use model::event::Event;
 use model::map::Access;
 
-#[unsafe(no_mangle)]
-pub extern "C" fn arcovinda_read(
-    sheet: &[u8],
-    map: &mut [u32; 44],
-    grid: &mut [u8; 64],
-    at: &mut u64,
-) -> u32
+pub fn arcovinda_read(sheet: &[u8], map: &mut [u32; 44], grid: &mut [u8; 64], at: &mut u64) -> u32
     ensures { read (left result at.new) map.new grid.new
         ≡ c_read sheet.now }
 {
@@ -53,13 +48,7 @@ pub extern "C" fn arcovinda_read(
     report_reading(reading, at)
 }
 
-#[unsafe(no_mangle)]
-pub extern "C" fn arcovinda_write(
-    map: &[u32; 44],
-    grid: &[u8; 64],
-    buffer: &mut [u8],
-    wrote: &mut u64,
-) -> u32
+pub fn arcovinda_write(map: &[u32; 44], grid: &[u8; 64], buffer: &mut [u8], wrote: &mut u64) -> u32
     ensures { left (left result wrote.new) buffer.new
         ≡ c_write map.now grid.now buffer.old }
 {
@@ -86,8 +75,7 @@ fn may(
     report_permission(permission, granted)
 }
 
-#[unsafe(no_mangle)]
-pub extern "C" fn arcovinda_may_read(
+pub fn arcovinda_may_read(
     map: &[u32; 44],
     grid: &[u8; 64],
     domain: u8,
@@ -100,8 +88,7 @@ pub extern "C" fn arcovinda_may_read(
     may(map, grid, domain, Access::Read, address, granted)
 }
 
-#[unsafe(no_mangle)]
-pub extern "C" fn arcovinda_may_write(
+pub fn arcovinda_may_write(
     map: &[u32; 44],
     grid: &[u8; 64],
     domain: u8,
@@ -114,8 +101,7 @@ pub extern "C" fn arcovinda_may_write(
     may(map, grid, domain, Access::Write, address, granted)
 }
 
-#[unsafe(no_mangle)]
-pub extern "C" fn arcovinda_may_fetch(
+pub fn arcovinda_may_fetch(
     map: &[u32; 44],
     grid: &[u8; 64],
     domain: u8,
@@ -128,8 +114,7 @@ pub extern "C" fn arcovinda_may_fetch(
     may(map, grid, domain, Access::Fetch, address, granted)
 }
 
-#[unsafe(no_mangle)]
-pub extern "C" fn arcovinda_view(
+pub fn arcovinda_view(
     map: &[u32; 44],
     grid: &[u8; 64],
     memory: &[u8],
@@ -160,8 +145,7 @@ pub extern "C" fn arcovinda_view(
     }
 }
 
-#[unsafe(no_mangle)]
-pub extern "C" fn arcovinda_start(map: &[u32; 44], grid: &[u8; 64], state: &mut [u32; 121]) -> u32
+pub fn arcovinda_start(map: &[u32; 44], grid: &[u8; 64], state: &mut [u32; 121]) -> u32
     ensures { left result state.new ≡ c_start map.now grid.now }
 {
     let m = map_of(&map[..]);
@@ -188,8 +172,7 @@ fn happen(
     report_stepped(stepped, state, answer)
 }
 
-#[unsafe(no_mangle)]
-pub extern "C" fn arcovinda_step(
+pub fn arcovinda_step(
     map: &[u32; 44],
     grid: &[u8; 64],
     state: &mut [u32; 121],
@@ -202,8 +185,7 @@ pub extern "C" fn arcovinda_step(
     happen(map, grid, state, memory, Event::Step, answer)
 }
 
-#[unsafe(no_mangle)]
-pub extern "C" fn arcovinda_tick(
+pub fn arcovinda_tick(
     map: &[u32; 44],
     grid: &[u8; 64],
     state: &mut [u32; 121],
@@ -216,8 +198,7 @@ pub extern "C" fn arcovinda_tick(
     happen(map, grid, state, memory, Event::Tick, answer)
 }
 
-#[unsafe(no_mangle)]
-pub extern "C" fn arcovinda_word_in(
+pub fn arcovinda_word_in(
     map: &[u32; 44],
     grid: &[u8; 64],
     state: &mut [u32; 121],
@@ -239,8 +220,7 @@ pub extern "C" fn arcovinda_word_in(
     )
 }
 
-#[unsafe(no_mangle)]
-pub extern "C" fn arcovinda_play(
+pub fn arcovinda_play(
     map: &[u32; 44],
     grid: &[u8; 64],
     state: &mut [u32; 121],
@@ -259,8 +239,7 @@ pub extern "C" fn arcovinda_play(
     report_played(played, state, events, at)
 }
 
-#[unsafe(no_mangle)]
-pub extern "C" fn arcovinda_batch(
+pub fn arcovinda_batch(
     map: &[u32; 44],
     grid: &[u8; 64],
     state: &mut [u32; 121],
@@ -278,13 +257,7 @@ pub extern "C" fn arcovinda_batch(
     report_batched(batched, state, steps)
 }
 
-#[unsafe(no_mangle)]
-pub extern "C" fn arcovinda_transcript(
-    sheet: &[u8],
-    memory: &mut [u8],
-    trace: &[u8],
-    text: &mut [u8],
-) -> usize
+pub fn arcovinda_transcript(sheet: &[u8], memory: &mut [u8], trace: &[u8], text: &mut [u8]) -> usize
     ensures { left (left result text.new) memory.new
         ≡ shown (transcript sheet.now memory.old trace.now) text.old }
 {
