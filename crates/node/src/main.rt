@@ -1,6 +1,8 @@
 // The program: files in, lines out. What the lines are is proved of `lines::transcript`; here files are read and the text is written.
 #![tactic(auto)]
 
+ghost use Rattle.std.specs.Prelude.{take};
+ghost use Rattle.std.specs.Io.KnownBytes.{Consumes};
 ghost use Rattle.io.specs.Counts.{IsPrefixLen};
 
 use std::fs::File;
@@ -14,9 +16,10 @@ const LONG: usize = 16384;
 // 80 bytes for each byte of the trace and 80 more: no text is longer, by `transcript_length` in crates/promises/specs/Texts.antt.
 const TEXT: usize = 1310800;
 
-// Fills the buffer from what is read and answers how many bytes came. A read that fails is the end.
-fn fill(file: &mut impl Read, buffer: &mut [u8]) -> usize
-    ensures { IsPrefixLen result buffer.new }
+// Fills the buffer from what is read and answers how many bytes came: the first ones, in their order. A read that fails is the end.
+fn fill<R: Read>(file: &mut R, buffer: &mut [u8]) -> usize
+    ensures room { IsPrefixLen result buffer.new }
+    ensures first { Consumes (R.remaining file.old) (R.remaining file.new) (take result buffer.new) }
 {
     let mut done = 0;
     while done < buffer.len() {
