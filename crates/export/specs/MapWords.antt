@@ -1,7 +1,6 @@
 -- A map as 44 words: length, kernel, count, then five a domain. A grid as 64 bytes, row by row.
 -- Assumes nothing.
-use Rattle.std.specs.Prelude.{ℕ, ◌+◌, ◌*◌, Bool, false, not, List, [], ◌∷◌, ◌++◌, ltb, eqb, get_or}
-use Rattle.model.specs.Basics.{if◌then◌else◌}
+use Rattle.std.specs.Prelude.{ℕ, ◌+◌, ◌*◌, Bool, false, not, List, [], ◌∷◌, ◌++◌, ltb, eqb, get_or, if◌then◌else◌}
 use Rattle.model.specs.Map.{region, nth, Grid}
 use Rattle.model.specs.declared.map.Region.{Region}
 use Rattle.model.specs.declared.map.Domain.{Domain}

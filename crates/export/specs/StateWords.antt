@@ -1,7 +1,6 @@
 -- A state as 121 words: active, then 15 a context.
 -- Assumes nothing.
-use Rattle.std.specs.Prelude.{ℕ, ◌+◌, ◌*◌, ◌%◌, List, [], ◌∷◌, ◌++◌, eqb, get_or}
-use Rattle.model.specs.Basics.{if◌then◌else◌}
+use Rattle.std.specs.Prelude.{ℕ, ◌+◌, ◌*◌, ◌%◌, List, [], ◌∷◌, ◌++◌, eqb, get_or, if◌then◌else◌}
 use Rattle.model.specs.States.{reason_number, register, missing, with_active}
 use Rattle.model.specs.declared.state.Reason.{Reason}
 use Rattle.model.specs.declared.state.Status.{Status}

@@ -1,8 +1,7 @@
 -- Steps one after the other, until as many as the limit are done or the node is idle; and what a stretch of one domain's instructions
 -- has to do with them.
 -- Assumes nothing.
-use Rattle.std.specs.Prelude.{◌≡◌, ℕ, zero, suc, ◌-◌, ◌<◌, ◌≤◌, Bool, true, List, [], length, ◌==◌, slice_index_or}
-use Rattle.model.specs.Basics.{if◌then◌else◌}
+use Rattle.std.specs.Prelude.{◌≡◌, ℕ, zero, suc, ◌-◌, ◌<◌, ◌≤◌, Bool, true, List, [], length, ◌==◌, slice_index_or, if◌then◌else◌}
 use Rattle.model.specs.Map.{Grid, domain}
 use Rattle.model.specs.States.{own, put_own}
 use Rattle.model.specs.Instructions.{kept}

@@ -1,7 +1,6 @@
 -- "registers above 7 in body order": the byte of a body that decides.
 -- Assumes nothing.
-use Rattle.std.specs.Prelude.{ℕ, Bool, true, false, List, nat_le}
-use Rattle.model.specs.Basics.{if◌then◌else◌}
+use Rattle.std.specs.Prelude.{ℕ, Bool, true, false, List, nat_le, if◌then◌else◌}
 use Rattle.model.specs.Instructions.{byte_r, byte_s}
 use Rattle.model.specs.Table.{Body}
 

@@ -1,8 +1,7 @@
 -- How an instruction went, told by the code for registers and memory alone: what it means for the context that it belongs to.
 -- Assumes nothing.
-use Rattle.std.specs.Prelude.{◌≡◌, ℕ, ◌-◌, Bool, false, ◌&&◌, List, slice_index_or}
+use Rattle.std.specs.Prelude.{◌≡◌, ℕ, ◌-◌, Bool, false, ◌&&◌, List, slice_index_or, if◌then◌else◌}
 use Rattle.std.proofs.Math.Option.{Option, none, some}
-use Rattle.model.specs.Basics.{if◌then◌else◌}
 use Rattle.model.specs.Map.{Rights, is_domain, may}
 use Rattle.model.specs.States.{full, with_counter}
 use Rattle.model.specs.Instructions.{Deed, Plan, take_into, work, peek, kept, carry}

@@ -1,6 +1,5 @@
 // "then access or channel": the effect of an instruction that was fetched and whose registers are good.
-ghost use Rattle.std.specs.Prelude.{◌≡◌, ◌^◌, ◌≤◌, nat_eq, nat_lt};
-ghost use Rattle.model.specs.Basics.{if◌then◌else◌};
+ghost use Rattle.std.specs.Prelude.{◌≡◌, ◌^◌, ◌≤◌, nat_eq, nat_lt, if◌then◌else◌};
 ghost use Rattle.model.specs.Map.{most};
 ghost use Rattle.model.specs.declared.state.Reason.{Reason};
 ghost use Rattle.instructions.specs.Told.{linked, Works};

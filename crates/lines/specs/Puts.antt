@@ -1,7 +1,6 @@
 -- Bytes that are put into a buffer from some place on, each where there is room.
 -- Assumes nothing.
-use Rattle.std.specs.Prelude.{ℕ, ◌+◌, List, [], ◌∷◌, ltb, length, set}
-use Rattle.model.specs.Basics.{if◌then◌else◌}
+use Rattle.std.specs.Prelude.{ℕ, ◌+◌, List, [], ◌∷◌, ltb, length, set, if◌then◌else◌}
 use Rattle.model.specs.Calls.{Left, left}
 
 -- the next place, and the buffer

@@ -1,11 +1,11 @@
 -- The exits of the calls on a node: refused, and done on a node that was tested.
 -- Assumes nothing.
+use Rattle.std.specs.Prelude.{if◌then◌else◌}
 use Prim.Native.Nat.{ℕ, ◌-◌, ◌≤◌}
 use mathlib.Core.Path.{◌≡◌, sym, ap, ◌∙◌}
 use mathlib.Core.List.{List}
 use lib.Dec.{eqb}
 use lib.ListN.{length}
-use Rattle.model.specs.Basics.{if◌then◌else◌}
 use Rattle.model.specs.Map.{most, Grid}
 use Rattle.model.specs.Refusals.{accepts}
 use Rattle.model.proofs.RefusalsLaws.{check_true, then_left, then_right, acceptable}

@@ -1,12 +1,11 @@
 -- A step and a batch, by `steps`.
 -- Assumes nothing.
 use Prim.Native.Nat.{ℕ, zero, suc, ◌+◌, ◌-◌, ◌≤◌}
-use Rattle.std.specs.Prelude.{◌≡◌, List, eqb}
+use Rattle.std.specs.Prelude.{◌≡◌, List, eqb, if◌then◌else◌}
 use Rattle.std.proofs.Math.Path.{refl}
 use Rattle.std.proofs.Common.{ap}
 use native.Mathlib.Omega.{arith}
 use borrow.Author.Tests.{ne_eqb}
-use Rattle.model.specs.Basics.{if◌then◌else◌}
 use Rattle.model.proofs.BasicsLaws.{by_bool}
 use Rattle.model.specs.Map.{Grid}
 use Rattle.model.specs.Events.{Outcome, gives, step, Batch, one_more, batch}

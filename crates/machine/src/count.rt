@@ -1,6 +1,5 @@
 // What a batch reports of what is left of its limit.
-ghost use Rattle.std.specs.Prelude.{◌≡◌, ◌-◌, ◌≤◌, eqb};
-ghost use Rattle.model.specs.Basics.{if◌then◌else◌};
+ghost use Rattle.std.specs.Prelude.{◌≡◌, ◌-◌, ◌≤◌, eqb, if◌then◌else◌};
 ghost use Rattle.model.specs.declared.call.Ending.{Ending};
 
 use model::call::Ending;

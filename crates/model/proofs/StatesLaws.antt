@@ -3,11 +3,10 @@
 --     Good                           the facts that `well-formed count s ≡ true` gives, by `good`, and that give it, by `formed`
 --     fill_good, take_good           boxes that stay good;  status_good, received_good: contexts
 -- Assumes nothing.
-use Rattle.std.specs.Prelude.{ℕ, zero, suc, ◌+◌, ◌-◌, ◌≤◌, ◌<◌, ◌≡◌, refl, ◌≢◌, Bool, true, false, ◌&&◌, not, leb, ltb, eqb, length, get_or}
+use Rattle.std.specs.Prelude.{ℕ, zero, suc, ◌+◌, ◌-◌, ◌≤◌, ◌<◌, ◌≡◌, refl, ◌≢◌, Bool, true, false, ◌&&◌, not, leb, ltb, eqb, length, get_or, if◌then◌else◌}
 use Rattle.std.proofs.Common.{sym, subst, arith, length-set, get_or-set_same, get_or-set_other, ltb-true, ltb-false, leb-true, eqb-true, lt-ltb, le-ltb, le-leb, eq-eqb, ne_eqb}
 use Rattle.std.proofs.Math.Bool.{and-false}
 use Rattle.std.proofs.lemmas.Bool.{eqb-false, not-true}
-use Rattle.model.specs.Basics.{if◌then◌else◌}
 use Rattle.model.specs.Map.{most}
 use Rattle.model.proofs.BasicsLaws.{by_bool, and_left, and_right, and_both, or_neither}
 use Rattle.model.specs.States.{full, fill, take_word, missing, with_status, is_ready, is_waiting, woken, received, context, put, ready, any_ready, active_good, box_good, context_good, is_blank, contexts_good, well_formed}

@@ -1,8 +1,7 @@
 -- The public calls: which tests each makes, in document 01's order ("then 9, 13, 14, 10, as far as each applies"), what it returns, and
 -- what it leaves in what it was lent. "Any other refused call sets no byte and gives back state, map and grid as they came, with counts 0".
 -- Assumes nothing.
-use Rattle.std.specs.Prelude.{ℕ, ◌-◌, Bool, List, [], ◌++◌, leb, eqb, length, take, drop}
-use Rattle.model.specs.Basics.{if◌then◌else◌}
+use Rattle.std.specs.Prelude.{ℕ, ◌-◌, Bool, List, [], ◌++◌, leb, eqb, length, take, drop, if◌then◌else◌}
 use Rattle.model.specs.Map.{no_map, Grid, no_grid, is_domain, domain, may}
 use Rattle.model.specs.Refusals.{check, ◌▸◌, accepts}
 use Rattle.model.specs.Sheet.{Found, sheet_bytes, sheet_read}

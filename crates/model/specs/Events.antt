@@ -1,7 +1,7 @@
 -- Document 01, "Events".
 -- Assumes nothing.
-use Rattle.std.specs.Prelude.{ℕ, zero, suc, ◌+◌, ◌&&◌, List, [], ◌∷◌, leb, eqb, length, get_or, drop}
-use Rattle.model.specs.Basics.{if◌then◌else◌, number}
+use Rattle.std.specs.Prelude.{ℕ, zero, suc, ◌+◌, ◌&&◌, List, [], ◌∷◌, leb, eqb, length, get_or, drop, if◌then◌else◌}
+use Rattle.model.specs.Basics.{number}
 use Rattle.model.specs.Map.{Grid, is_domain, rights}
 use Rattle.model.specs.States.{full, is_waiting, set_register, with_status, received, context, put, own, put_own, with_active, switch}
 use Rattle.model.specs.Instructions.{Deed, Done, plan, carry}

@@ -2,8 +2,7 @@
 --     Shaped                what the array types give of a map and a grid; Square is the grid's part
 --     channel_count         the number of marked cells
 -- Assumes nothing.
-use Rattle.std.specs.Prelude.{ℕ, zero, suc, ◌+◌, ◌*◌, ◌≤◌, ◌<◌, ◌≡◌, false, [], eqb, length, get_or}
-use Rattle.model.specs.Basics.{if◌then◌else◌}
+use Rattle.std.specs.Prelude.{ℕ, zero, suc, ◌+◌, ◌*◌, ◌≤◌, ◌<◌, ◌≡◌, false, [], eqb, length, get_or, if◌then◌else◌}
 use Rattle.model.specs.Map.{most, Grid}
 use Rattle.model.specs.Refusals.{cell, from, to}
 use Rattle.model.specs.declared.map.Map.{Map}

@@ -2,10 +2,10 @@
 -- An instruction, for its context alone, is a plan: what it asks for, and what it does with what it gets.
 -- Rights are consulted in one place, `carry`.
 -- Assumes nothing.
-use Rattle.std.specs.Prelude.{ℕ, zero, suc, ◌+◌, ◌-◌, ◌%◌, ◌^◌, List, [], ◌∷◌, leb, ltb, eqb, length, get_or}
+use Rattle.std.specs.Prelude.{ℕ, zero, suc, ◌+◌, ◌-◌, ◌%◌, ◌^◌, List, [], ◌∷◌, leb, ltb, eqb, length, get_or, if◌then◌else◌}
 use Rattle.std.specs.Int.Bits.{bit_and, bit_or, bit_xor}
 use Rattle.std.proofs.lemmas.List.Edits.{sets}
-use Rattle.model.specs.Basics.{if◌then◌else◌, unless, bytes, number, half}
+use Rattle.model.specs.Basics.{unless, bytes, number, half}
 use Rattle.model.specs.Map.{Rights, lowest}
 use Rattle.model.specs.Table.{Row, size, registers_of, row_of}
 use Rattle.model.specs.States.{full, held_word, held_sender, take_word, register, set_register, with_counter, with_box}

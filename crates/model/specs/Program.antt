@@ -1,10 +1,9 @@
 -- Document 01, "The program": what it prints for a sheet, a memory and a trace, as bytes of ASCII. Cutting the files to their first bytes
 -- is the program's own.
 -- Assumes nothing.
-use Rattle.std.specs.Prelude.{ℕ, zero, suc, ◌+◌, ◌/◌, ◌%◌, min, List, [], ◌∷◌, ◌++◌, ltb, length, take, drop}
+use Rattle.std.specs.Prelude.{ℕ, zero, suc, ◌+◌, ◌/◌, ◌%◌, min, List, [], ◌∷◌, ◌++◌, ltb, length, take, drop, if◌then◌else◌}
 use Prim.Native.String.{String, [] as empty, ◌∷◌ as ◌∷ᵗ◌}
 use Prim.Native.Char.{code}
-use Rattle.model.specs.Basics.{if◌then◌else◌}
 use Rattle.model.specs.Map.{Grid}
 use Rattle.model.specs.Refusals.{refusal_number}
 use Rattle.model.specs.Sheet.{Found, sheet_read}

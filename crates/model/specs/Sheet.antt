@@ -1,7 +1,7 @@
 -- Document 01, "The sheet".
 -- Assumes nothing.
-use Rattle.std.specs.Prelude.{ℕ, zero, suc, ◌+◌, ◌-◌, ◌*◌, Bool, true, ◌&&◌, List, [], ◌∷◌, ◌++◌, leb, eqb, length, get_or, set, take, drop}
-use Rattle.model.specs.Basics.{if◌then◌else◌, bytes, number}
+use Rattle.std.specs.Prelude.{ℕ, zero, suc, ◌+◌, ◌-◌, ◌*◌, Bool, true, ◌&&◌, List, [], ◌∷◌, ◌++◌, leb, eqb, length, get_or, set, take, drop, if◌then◌else◌}
+use Rattle.model.specs.Basics.{bytes, number}
 use Rattle.model.specs.Map.{most, nth, no_map, Grid, no_grid}
 use Rattle.model.specs.Refusals.{check, sized, within, domain_verdict, cell, from, to, is_channel}
 use Rattle.model.specs.declared.map.Region.{Region}

@@ -2,10 +2,10 @@
 --     map_rules, named_rules, lent_rules, fitting_rules, node_rules     each verdict
 --     sheet_read_by, event_ruled                                        the readings
 -- Assumes nothing.
-use Rattle.std.specs.Prelude.{ℕ, zero, suc, ◌+◌, ◌≡◌, refl, Bool, true, false, not, List, [], ◌∷◌, ◌++◌, leb, eqb, length, take, drop}
+use Rattle.std.specs.Prelude.{ℕ, zero, suc, ◌+◌, ◌≡◌, refl, Bool, true, false, not, List, [], ◌∷◌, ◌++◌, leb, eqb, length, take, drop, if◌then◌else◌}
 use Rattle.std.proofs.Common.{sym, ◌∙◌, arith, le-leb, eqb-true}
 use Rattle.std.proofs.Math.Dec.{leb-zero}
-use Rattle.model.specs.Basics.{if◌then◌else◌, number}
+use Rattle.model.specs.Basics.{number}
 use Rattle.model.proofs.BasicsLaws.{by_bool}
 use Rattle.model.specs.Map.{most, Grid, no_grid, nth}
 use Rattle.model.specs.Refusals.{refusal_number, check, ◌▸◌, counted, unused_zero, sized, within, domain_verdict, domains_verdict, map_verdict, accepts}

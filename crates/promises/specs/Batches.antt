@@ -4,13 +4,12 @@
 --     batch_ends       spent exactly if the number is the limit
 -- Assumes nothing.
 use Prim.Native.Nat.{ℕ, zero, suc, ◌+◌}
-use Rattle.std.specs.Prelude.{◌≡◌, Bool, true, List, [], ◌∷◌, eqb, replicate}
+use Rattle.std.specs.Prelude.{◌≡◌, Bool, true, List, [], ◌∷◌, eqb, replicate, if◌then◌else◌}
 use Rattle.std.proofs.Math.Path.{refl, sym, ap}
 use Rattle.std.proofs.Common.{◌∙◌}
 use Rattle.std.proofs.Math.Bool.{false}
 use Rattle.std.proofs.Math.Numerals.{add-one}
 use Rattle.std.proofs.Math.Dec.{eqb-zero-suc, eqb-suc-suc}
-use Rattle.model.specs.Basics.{if◌then◌else◌}
 use Rattle.model.proofs.BasicsLaws.{by_bool}
 use Rattle.model.specs.Map.{Grid}
 use Rattle.model.specs.Events.{attempt, step, event, run, batch}

@@ -2,10 +2,9 @@
 -- Hence a domain that stays ready is active after at most N - 1 switches. Prove this."
 -- The theorem is `fair`, over any events from any well-formed state; `honest` says that what it counts are the switches.
 -- Assumes nothing.
-use Rattle.std.specs.Prelude.{ℕ, zero, suc, ◌+◌, ◌-◌, ◌≤◌, ◌≡◌, refl, ◌≢◌, true, List, [], ◌∷◌, eqb}
+use Rattle.std.specs.Prelude.{ℕ, zero, suc, ◌+◌, ◌-◌, ◌≤◌, ◌≡◌, refl, ◌≢◌, true, List, [], ◌∷◌, eqb, if◌then◌else◌}
 use Rattle.std.proofs.Common.{ap, ◌∙◌, arith, eqb-true, ne_eqb}
 use Rattle.std.proofs.lemmas.Bool.{eqb-false}
-use Rattle.model.specs.Basics.{if◌then◌else◌}
 use Rattle.model.specs.Map.{Grid, is_domain}
 use Rattle.model.specs.States.{full, context, ready, active_good, well_formed, switch}
 use Rattle.model.specs.Instructions.{Deed}

@@ -3,9 +3,9 @@
 --     tests             the tests of each call
 --     ruling            what they come to: accepted, or the refusal of the first that is not passed; `all_passed` and `first_failed` say so
 -- Assumes nothing.
-use Rattle.std.specs.Prelude.{ℕ, zero, suc, ◌+◌, ◌*◌, ◌≡◌, refl, ◌⊎◌, Bool, true, false, ◌&&◌, ◌||◌, not, List, [], ◌∷◌, ◌++◌, leb, eqb, length, take, drop, get_or}
+use Rattle.std.specs.Prelude.{ℕ, zero, suc, ◌+◌, ◌*◌, ◌≡◌, refl, ◌⊎◌, Bool, true, false, ◌&&◌, ◌||◌, not, List, [], ◌∷◌, ◌++◌, leb, eqb, length, take, drop, get_or, if◌then◌else◌}
 use Rattle.std.proofs.Common.{ap, inl, inr}
-use Rattle.model.specs.Basics.{if◌then◌else◌, number as number_at}
+use Rattle.model.specs.Basics.{number as number_at}
 use Rattle.model.proofs.BasicsLaws.{by_bool}
 use Rattle.model.specs.Map.{most, inside, overlaps, nth, Grid, is_domain}
 use Rattle.model.specs.Refusals.{counted, unused_zero, sized, within, clear, channels_good}

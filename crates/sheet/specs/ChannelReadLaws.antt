@@ -4,11 +4,10 @@
 --     body_cut            a record of kind 4 whose body is not there
 --     channel, no_channel   one whose body is there: a channel above the one before, and none
 -- Assumes nothing.
-use Rattle.std.specs.Prelude.{ℕ, ◌+◌, ◌-◌, ◌≤◌, ◌<◌, ◌≡◌, Bool, true, false, eqb, length, get_or, drop}
+use Rattle.std.specs.Prelude.{ℕ, ◌+◌, ◌-◌, ◌≤◌, ◌<◌, ◌≡◌, Bool, true, false, eqb, length, get_or, drop, if◌then◌else◌}
 use Rattle.std.proofs.Math.Path.{refl, ap}
 use Rattle.std.proofs.Common.{◌∙◌, arith, length-drop, le-leb, ne_eqb}
 use mathlib.Core.List.{List, [], ◌∷◌}
-use Rattle.model.specs.Basics.{if◌then◌else◌}
 use Rattle.model.proofs.BasicsLaws.{and_both}
 use Rattle.model.specs.Map.{Grid}
 use Rattle.model.specs.Refusals.{check, is_channel}

@@ -1,6 +1,7 @@
 -- One turn of each loop, in the code's numbers: a loop that counts down goes from n to n - 1, one that counts up from i to
 -- i + 1. x is what the code found of a test.
 -- Assumes nothing.
+use Rattle.std.specs.Prelude.{if◌then◌else◌}
 use Prim.Native.Nat.{ℕ, zero, suc, ◌+◌, ◌-◌, ◌<◌, ◌≤◌}
 use mathlib.Core.Path.{◌≡◌, sym, ap, ◌∙◌}
 use mathlib.Core.Bool.{Bool, true, false, ◌&&◌}
@@ -8,7 +9,6 @@ use mathlib.Core.List.{List}
 use native.Mathlib.Omega.{arith}
 use lib.Dec.{ltb, eqb}
 use lib.ListN.{get_or, set, replicate}
-use Rattle.model.specs.Basics.{if◌then◌else◌}
 use Rattle.model.proofs.LoopLaws.{back}
 use Rattle.model.specs.Map.{most, nth}
 use Rattle.model.specs.States.{blank, missing, at_entry, is_ready, ready, seated, start, any_ready, context_good, zeros, is_blank, contexts_good, after, first_ready}

@@ -1,6 +1,5 @@
 // "Well formed".
-ghost use Rattle.std.specs.Prelude.{◌≡◌, ◌≤◌, ltb};
-ghost use Rattle.model.specs.Basics.{if◌then◌else◌};
+ghost use Rattle.std.specs.Prelude.{◌≡◌, ◌≤◌, ltb, if◌then◌else◌};
 ghost use Rattle.model.specs.Map.{most};
 ghost use Rattle.model.specs.States.{any_ready, active_good, box_good, context_good, zeros, is_blank, contexts_good, well_formed};
 

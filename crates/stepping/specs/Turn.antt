@@ -1,8 +1,7 @@
 -- A turn of the machine: what an ending stretch makes of its own context, and which domains are tried next. The one that is found is
 -- active.
 -- Assumes nothing.
-use Rattle.std.specs.Prelude.{ℕ, zero, suc, ◌-◌, List, get_or}
-use Rattle.model.specs.Basics.{if◌then◌else◌}
+use Rattle.std.specs.Prelude.{ℕ, zero, suc, ◌-◌, List, get_or, if◌then◌else◌}
 use Rattle.model.specs.States.{missing, with_status, is_ready, with_active, after}
 use Rattle.model.specs.Instructions.{Deed}
 use Rattle.model.specs.declared.state.Status.{Status}

@@ -1,10 +1,9 @@
 -- The loop over steps, turn by turn: what it keeps, and its ends.
 -- Assumes nothing.
-use Rattle.std.specs.Prelude.{ℕ, ◌-◌, ◌≤◌, ◌<◌, ◌≡◌, refl, Bool, true, false, List, [], eqb, length, get_or, set}
+use Rattle.std.specs.Prelude.{ℕ, ◌-◌, ◌≤◌, ◌<◌, ◌≡◌, refl, Bool, true, false, List, [], eqb, length, get_or, set, if◌then◌else◌}
 use Rattle.std.proofs.Math.Path.{sym}
 use Rattle.std.proofs.Common.{subst, ◌∙◌, arith, set-set}
 use borrow.Author.Tests.{eqb-true, eqb-false}
-use Rattle.model.specs.Basics.{if◌then◌else◌}
 use Rattle.model.proofs.BasicsLaws.{by_bool, and_left}
 use Rattle.model.specs.Map.{most, Grid, is_domain, domain}
 use Rattle.model.proofs.MapLaws.{in_range}

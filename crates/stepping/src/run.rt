@@ -1,7 +1,6 @@
 // Steps, one after the other: the loop that owns the state. Inside it the state crosses no call; what the active domain needs is in
 // locals while a stretch of its instructions runs, and is written back where the stretch ends.
-ghost use Rattle.std.specs.Prelude.{◌≡◌, eqb};
-ghost use Rattle.model.specs.Basics.{if◌then◌else◌};
+ghost use Rattle.std.specs.Prelude.{◌≡◌, eqb, if◌then◌else◌};
 ghost use Rattle.model.specs.SoundLaws.{Sound};
 ghost use Rattle.model.specs.declared.event.Answer.{Answer};
 ghost use Rattle.instructions.specs.Steps.{going, steps};

@@ -1,8 +1,9 @@
 -- `instructions::work::work` meets its contract. Before the match the code has read the values that the definition reads; each arm is
 -- then one of the four ways to go on from there, with what the definition does at that effect.
+use Rattle.std.specs.Prelude.{if◌then◌else◌}
 use Rattle.std.proofs.Common.{◌≡◌, ℕ, ◌+◌, ◌-◌, ◌%◌, ◌^◌, nat_eq, nat_lt, Bool, List, [], ◌∷◌, get_or, slice_index, refl, ap, arith}
 use lib.Bits.{bit_and, bit_or, bit_xor}
-use Rattle.model.specs.Basics.{if◌then◌else◌, bytes, number, half}
+use Rattle.model.specs.Basics.{bytes, number, half}
 use Rattle.model.proofs.BasicsLaws.{by_bool}
 use Rattle.model.specs.Instructions.{byte_r, in_r, work, peek, carry}
 use Rattle.model.specs.declared.map.Domain.{Domain}
