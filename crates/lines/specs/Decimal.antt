@@ -1,7 +1,7 @@
 -- The digits that io::decimal makes are the definition's.
 -- Assumes nothing.
-use Rattle.std.specs.Prelude.{ℕ, zero, suc, ◌+◌, ◌-◌, ◌*◌, ◌/◌, ◌%◌, ◌^◌, ◌≤◌, ◌<◌, ◌≡◌, refl, List, [], ◌∷◌, ◌++◌, ltb, leb}
-use Rattle.std.proofs.Common.{sym, ap, ◌∙◌, arith, sub-one, lt-ltb, le-ltb, leb-true, leb-false}
+use Rattle.std.specs.Prelude.{ℕ, zero, suc, ◌+◌, ◌-◌, ◌/◌, ◌%◌, ◌^◌, ◌≤◌, ◌<◌, ◌≡◌, [], ◌∷◌, ◌++◌, leb}
+use Rattle.std.proofs.Common.{ap, ◌∙◌, arith, sub-one, lt-ltb, le-ltb, leb-true, leb-false}
 use Rattle.std.proofs.Math.Nat.{pow-le-pow_right}
 use Rattle.model.proofs.BasicsLaws.{by_bool}
 use Rattle.io.specs.Digits.{last_digits, hex_digit_ascii, IsDigitCount}

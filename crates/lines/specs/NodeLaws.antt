@@ -1,7 +1,7 @@
 -- A node that was accepted and is between two events of its trace: what the next event, and a broken record make of what is told.
 --     starts, turns, stops
 -- Assumes nothing.
-use Rattle.std.specs.Prelude.{ℕ, ◌+◌, ◌≤◌, ◌<◌, ◌≡◌, List, length, drop}
+use Rattle.std.specs.Prelude.{ℕ, ◌+◌, ◌<◌, ◌≡◌, List, length, drop}
 use Rattle.std.proofs.Common.{sym, ◌∙◌, eq-eqb}
 use Rattle.std.proofs.Math.Path.{ap, subst}
 use Rattle.model.specs.Map.{Grid}
@@ -19,7 +19,6 @@ use Rattle.model.specs.declared.event.Event.{Event}
 use Rattle.model.specs.declared.event.EventRead.{EventRead}
 use Rattle.model.specs.declared.refusal.Refusal.{Refusal}
 use Rattle.model.specs.declared.call.Verdict.{Verdict}
-use Rattle.model.specs.declared.call.Reply.{Reply}
 use Rattle.model.specs.declared.call.Started.{Started}
 use Rattle.model.specs.declared.call.Stepped.{Stepped}
 use Rattle.promises.specs.Kept.{each_keeps}

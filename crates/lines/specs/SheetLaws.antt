@@ -3,14 +3,14 @@
 --     told_refused, told_accepted, told_long      whether the memory is as long as the map says
 --     printed_refused, printed_whole, whole_accepted      what was read of a sheet
 -- Assumes nothing.
-use Rattle.std.specs.Prelude.{ℕ, ◌≡◌, refl, ◌&&◌, List, eqb, length}
+use Rattle.std.specs.Prelude.{ℕ, ◌≡◌, refl, List, length}
 use Rattle.std.proofs.Common.{sym, ◌∙◌, arith}
 use Rattle.std.proofs.Math.Path.{ap}
 use Rattle.std.proofs.Math.Bool.{true}
 use borrow.Author.Tests.{eqb-true, le-leb}
 use Rattle.model.specs.Map.{Grid, is_domain}
 use Rattle.model.specs.RecordLaws.{Octets}
-use Rattle.model.specs.Refusals.{check, ◌▸◌, accepts}
+use Rattle.model.specs.Refusals.{◌▸◌, accepts}
 use Rattle.model.proofs.RefusalsLaws.{check_true, acceptable}
 use Rattle.model.specs.Sheet.{Found, sheet_read}
 use Rattle.model.specs.Calls.{left, as_long, lent_verdict, reported, reader}

@@ -1,6 +1,5 @@
 -- `export::lay::lay_bytes` meets its contract. The loop's invariant: what is left of the part, laid at `next`, comes to what all of it comes to
 -- from `at`. The measure is how much is left.
-use Prim.Native.Nat.{◌-◌}
 use mathlib.Core.Path.{refl}
 use native.Mathlib.Omega.{arith}
 use Rattle.export.specs.WordsLaws.{laying_past, laying_on, laying_all}

@@ -1,5 +1,5 @@
 -- `export::words::same` meets its contract. The loop's invariant: the first i words decide as all n do. The measure is i.
-use mathlib.Core.Path.{◌≡◌, refl, sym, ◌∙◌}
+use mathlib.Core.Path.{refl, sym, ◌∙◌}
 use native.Mathlib.Omega.{arith}
 use Rattle.model.proofs.LoopLaws.{spent}
 use Rattle.export.specs.Words.{alike}

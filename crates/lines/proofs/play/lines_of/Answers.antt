@@ -1,21 +1,17 @@
 -- `lines::play::lines_of` meets its contract. The loop's invariant: the rest, told from where it has come to, is the whole, and the node is
 -- sound there. The measure is how many bytes are left.
-use Prim.Native.Nat.{ℕ, ◌+◌, ◌-◌, ◌≤◌}
+use Prim.Native.Nat.{ℕ, ◌+◌}
 use mathlib.Core.Path.{◌≡◌, refl, sym, ap, ◌∙◌}
 use mathlib.Core.List.{List}
 use native.Mathlib.Omega.{arith}
-use lib.ListN.{length, drop}
 use mir.Syntax.{w64}
 use mir.Val.{Fits}
 use Rattle.model.specs.Map.{Grid}
 use Rattle.model.specs.Refusals.{accepts}
-use Rattle.model.specs.Events.{event_read}
 use Rattle.model.proofs.TraceLaws.{rest_read, rest_takes}
 use Rattle.model.specs.Calls.{left, starter}
 use Rattle.model.specs.Program.{of_trace, shown}
 use Rattle.model.specs.declared.map.Map.{Map}
-use Rattle.model.specs.declared.event.Event.{Event}
-use Rattle.model.specs.declared.event.EventRead.{EventRead}
 use Rattle.model.specs.declared.call.Verdict.{Verdict}
 use Rattle.model.specs.declared.call.Started.{Started}
 use Rattle.lines.specs.Telling.{tells}

@@ -1,5 +1,5 @@
 -- `lines::text::word` meets its contract. The loop's invariant: the first i bytes are put. The measure is how many are left.
-use Prim.Native.Nat.{ℕ, ◌-◌}
+use Prim.Native.Nat.{ℕ}
 use mathlib.Core.Path.{◌≡◌, refl, ap, ◌∙◌}
 use mathlib.Core.List.{List}
 use native.Mathlib.Omega.{arith}

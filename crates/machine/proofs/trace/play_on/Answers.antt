@@ -1,6 +1,6 @@
 -- `machine::trace::play_on` meets its contract. The loop's invariant: the rest, played from where it has come to, is the whole, and
 -- the state is sound there. The measure is how many bytes are left.
-use Prim.Native.Nat.{ℕ, ◌+◌, ◌-◌, ◌≤◌, ◌<◌}
+use Prim.Native.Nat.{ℕ, ◌+◌, ◌≤◌, ◌<◌}
 use mathlib.Core.Path.{◌≡◌, sym, ap, ◌∙◌, subst}
 use mathlib.Core.List.{List}
 use native.Mathlib.Omega.{arith}

@@ -1,5 +1,5 @@
 -- `states::good::any_ready` meets its contract. The loop's invariant: the first n domains decide as all do. The measure is n.
-use mathlib.Core.Path.{◌≡◌, refl, sym, ◌∙◌}
+use mathlib.Core.Path.{refl, sym, ◌∙◌}
 use native.Mathlib.Omega.{arith}
 use Rattle.model.proofs.LoopLaws.{spent}
 use Rattle.model.specs.States.{any_ready}

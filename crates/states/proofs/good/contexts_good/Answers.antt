@@ -1,6 +1,6 @@
 -- `states::good::contexts_good` meets its contract. The loop's invariant: the first n contexts decide as all eight do. The
 -- measure is n.
-use mathlib.Core.Path.{◌≡◌, refl, sym, ◌∙◌}
+use mathlib.Core.Path.{refl, sym, ◌∙◌}
 use native.Mathlib.Omega.{arith}
 use Rattle.model.proofs.LoopLaws.{spent}
 use Rattle.model.specs.States.{contexts_good}

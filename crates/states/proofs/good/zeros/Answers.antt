@@ -1,5 +1,5 @@
 -- `states::good::zeros` meets its contract. The loop's invariant: the first n numbers decide as all eight do. The measure is n.
-use mathlib.Core.Path.{◌≡◌, refl, sym, ◌∙◌}
+use mathlib.Core.Path.{refl, sym, ◌∙◌}
 use native.Mathlib.Omega.{arith}
 use borrow.Author.Tests.{eq-eqb, ne_eqb}
 use Rattle.model.proofs.LoopLaws.{spent}

@@ -1,7 +1,7 @@
 -- `states::start::start` meets its contract. The loop's invariant: the domains from i on, put into the contexts as they are, come
 -- to what all of them come to. The measure is the number of domains left.
 use Prim.Native.Nat.{◌-◌}
-use mathlib.Core.Path.{◌≡◌, refl, sym, ◌∙◌}
+use mathlib.Core.Path.{refl, sym, ◌∙◌}
 use native.Mathlib.Nat.{sub-zero}
 use native.Mathlib.Omega.{arith}
 use Rattle.model.proofs.LoopLaws.{fewer}

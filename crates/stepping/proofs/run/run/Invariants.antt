@@ -1,6 +1,6 @@
 -- `stepping::run::run` meets its contract. The loop's invariant is `Turning`: the steps from the state that it stands for are those
 -- from the start. The measure: every turn has fewer steps left, or as many and one domain fewer to try.
-use Prim.Native.Nat.{◌+◌, ◌-◌, ◌*◌}
+use Prim.Native.Nat.{◌+◌, ◌*◌}
 use mathlib.Core.Path.{◌≡◌}
 use lib.ListN.{length}
 use Rattle.stepping.specs.Turning.{Turning}
