@@ -3,7 +3,7 @@
 --     trace_empty, -whole, -broken   how reading goes on
 --     rest_end, -whole, -broken      the same, of the bytes that are left of a longer trace
 --     rest_read                      what is read of those bytes, as a slice has them
---     rest_takes                     an event takes a byte at least, and no more than there are
+--     rest_takes, read_takes         an event takes a byte at least, and no more than there are
 -- Assumes nothing.
 use Rattle.std.specs.Prelude.{ℕ, zero, suc, ◌+◌, ◌-◌, ◌≤◌, ◌<◌, ◌≡◌, refl, List, [], ◌∷◌, leb, eqb, length, take, drop}
 use Rattle.std.proofs.Common.{sym, ap, ◌∙◌, arith, length-drop, drop_of_length-le, drop-cons, drop-drop, leb-true}
@@ -100,3 +100,8 @@ module _ (bytes : List ℕ) (at : ℕ) where
     rest_takes e n w =
         let long = length-drop at bytes in
         let takes = whole_takes (drop at bytes) e n w in (takes.0, omega (arith, takes.1))
+
+    pub read_takes :
+        {r : EventRead} {e : Event} {n : ℕ} → r ≡ event_read (take (length bytes - at) (drop at bytes)) → r ≡ EventRead.Whole e n
+        → (1 ≤ n) × (at + n ≤ length bytes)
+    read_takes q w = rest_takes _ _ (rest_read q ∙ w)

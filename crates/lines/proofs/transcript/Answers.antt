@@ -8,7 +8,7 @@ use Rattle.lines.proofs.transcript.Goals as goal
 pub node_lines-requires : goal.node_lines-requires
 node_lines-requires c =
     whole_accepted c.args.sheet.now c.read-found.ensures c.in-Whole.is
-    (λ i. omega (arith, c.shared_slice_known-1.given i))
+    (λ i. omega (arith, c.type_inv.sheet i))
 
 pub returns-in-Refused : goal.returns-in-Refused
 returns-in-Refused c =

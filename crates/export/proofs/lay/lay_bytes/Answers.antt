@@ -1,5 +1,4 @@
--- `export::lay::lay_bytes` meets its contract. The loop's invariant: what is left of the part, laid at `next`, comes to what all of it comes to
--- from `at`. The measure is how much is left.
+-- `export::lay::lay_bytes` meets its contract: the loop's invariant holds at the start and after each turn, and each way out follows from it.
 use mathlib.Core.Path.{refl}
 use native.Mathlib.Omega.{arith}
 use Rattle.export.specs.WordsLaws.{laying_past, laying_on, laying_all}

@@ -1,4 +1,4 @@
--- `export::words::same` meets its contract. The loop's invariant: the first i words decide as all n do. The measure is i.
+-- `export::words::same` meets its contract: the loop's invariant holds at the start and after each turn, and each way out follows from it.
 use mathlib.Core.Path.{refl, sym, ◌∙◌}
 use native.Mathlib.Omega.{arith}
 use Rattle.model.proofs.LoopLaws.{spent}

@@ -1,5 +1,4 @@
--- `instructions::access::first_denied` meets its contract. All of the access is in its home, or the loop looks: the loop's invariant: the lowest denied of the addresses left is the
--- lowest of all. The measure is the number left.
+-- `instructions::access::first_denied` meets its contract: the loop's invariant holds at the start and after each turn, and each way out follows from it.
 use Rattle.std.proofs.Common.{sym, refl, ◌∙◌, arith}
 use Rattle.model.proofs.LoopLaws.{spent}
 use Rattle.model.specs.Map.{lowest}

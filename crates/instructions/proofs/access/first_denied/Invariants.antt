@@ -1,5 +1,5 @@
--- `instructions::access::first_denied` meets its contract. All of the access is in its home, or the loop looks: the loop's invariant: the lowest denied of the addresses left is the
--- lowest of all. The measure is the number left.
+-- `instructions::access::first_denied` meets its contract. All of the access is in its home, or the loop looks. The loop's invariant: the lowest
+-- denied of the addresses left is the lowest of all. The measure is the number left.
 use Rattle.std.proofs.Common.{◌≡◌, ◌+◌}
 use Rattle.model.specs.Map.{may, lowest}
 use Rattle.instructions.proofs.access.first_denied.Given as goal

@@ -1,5 +1,4 @@
--- `instructions::stretch::stretch` meets its contract. The loop's invariant: the steps from where it began are those from where it
--- has come to. The measure is how many are left.
+-- `instructions::stretch::stretch` meets its contract: the loop's invariant holds at the start and after each turn, and each way out follows from it.
 use Rattle.std.proofs.Common.{◌≡◌, refl, ℕ, List, arith, rules}
 use Rattle.instructions.specs.Told.{Keeps}
 use Rattle.instructions.specs.StepsLaws.{reaches_start, reaches_more, reaches_stops, reaches_spent}

@@ -5,8 +5,9 @@ use Rattle.instructions.specs.StepsLaws.{Reaches}
 use Rattle.instructions.proofs.stretch.stretch.Given as goal
 
 abbrev pub invariant-loop-left : goal.invariant-loop-left
-invariant-loop-left l = (length l.memory ≡ length l.initial.memory) × (l.left ≤ l.limit) × Reaches l.own l.count l.row l.initial.registers l.counter l.initial.memory l.limit l.registers l.at l.memory
-    l.left
+invariant-loop-left l =
+    (length l.memory ≡ length l.initial.memory) × (l.left ≤ l.limit)
+    × Reaches l.own l.count l.row l.initial.registers l.counter l.initial.memory l.limit l.registers l.at l.memory l.left
 
 abbrev pub decreases-loop-left : goal.decreases-loop-left
 decreases-loop-left l = l.left

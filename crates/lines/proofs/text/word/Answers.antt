@@ -1,4 +1,5 @@
--- `lines::text::word` meets its contract. The loop's invariant: the first i bytes are put. The measure is how many are left.
+-- `lines::text::word` meets its contract: the loop's invariant holds at the start and after each turn, and each way out follows from it.
+use borrow.Author.Rules.{rules}
 use Prim.Native.Nat.{ℕ}
 use mathlib.Core.Path.{◌≡◌, refl, ap, ◌∙◌}
 use mathlib.Core.List.{List}
@@ -21,7 +22,7 @@ pub loop-i-preserved : goal.loop-i-preserved
 loop-i-preserved c =
     let inv = c.loop-i.invariant in
     let a = c.args in
-    (c.out-1.given ∙ inv.0, omega arith, puts_next (left a.at a.out.now) a.w.now c.loop-i.i (omega arith) inv.2 c.put-end.ensures)
+    (search rules, omega arith, puts_next (left a.at a.out.now) a.w.now c.loop-i.i (omega arith) inv.2 c.put-end.ensures)
 
 pub shape_of-out : goal.shape_of-out
 shape_of-out c = c.loop-i.invariant.0

@@ -1,5 +1,4 @@
--- `rights::channel::channels_good` meets its contract. The loop's invariant: the cells from p on decide as all do. The measure
--- is the number of cells left.
+-- `rights::channel::channels_good` meets its contract: the loop's invariant holds at the start and after each turn, and each way out follows from it.
 use Prim.Native.Nat.{◌*◌, ◌-◌}
 use mathlib.Core.Path.{refl, sym, ◌∙◌, ap}
 use mathlib.Core.Bool.{not}

@@ -1,5 +1,4 @@
--- `rights::domain::clear` meets its contract. The loop's invariant: the first n domains, with the kernel, decide as the first i
--- do. The measure is n.
+-- `rights::domain::clear` meets its contract: the loop's invariant holds at the start and after each turn, and each way out follows from it.
 use mathlib.Core.Path.{refl, sym, ap, ◌∙◌}
 use mathlib.Core.Bool.{not}
 use native.Mathlib.Omega.{arith}

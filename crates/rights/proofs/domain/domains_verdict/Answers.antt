@@ -1,5 +1,4 @@
--- `rights::domain::domains_verdict` meets its contract. The loop's invariant: the domains from i on decide as all do. The
--- measure is the number of domains left.
+-- `rights::domain::domains_verdict` meets its contract: the loop's invariant holds at the start and after each turn, and each way out follows from it.
 use Prim.Native.Nat.{◌-◌}
 use mathlib.Core.Path.{sym, ◌∙◌}
 use native.Mathlib.Nat.{sub-zero}

@@ -1,5 +1,4 @@
--- `rights::domain::unused_zero` meets its contract. The loop's invariant: the first n entries decide as all eight do. The
--- measure is n.
+-- `rights::domain::unused_zero` meets its contract: the loop's invariant holds at the start and after each turn, and each way out follows from it.
 use mathlib.Core.Path.{refl, sym, ◌∙◌, ap}
 use mathlib.Core.Bool.{not}
 use native.Mathlib.Omega.{arith}

@@ -1,5 +1,4 @@
--- `sheet::channels::channels` meets its contract: what the definition reads from here, with the grid as it is now, stays what it
--- reads from the cursor, and each turn leaves fewer bytes.
+-- `sheet::channels::channels` meets its contract: the loop's invariant holds at the start and after each turn, and each way out follows from it.
 use mathlib.Core.Path.{refl, ◌∙◌}
 use Rattle.sheet.proofs.channels.channels.Goals as goal
 

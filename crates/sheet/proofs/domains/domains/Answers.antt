@@ -1,5 +1,4 @@
--- `sheet::domains::domains` meets its contract. The loop's invariant: with room for those domains that may still come, reading
--- on from the cursor is reading from the start. The measure is that room.
+-- `sheet::domains::domains` meets its contract: the loop's invariant holds at the start and after each turn, and each way out follows from it.
 use Prim.Native.Nat.{suc, ◌+◌, ◌-◌}
 use mathlib.Core.Path.{◌≡◌, refl, ap, ◌∙◌}
 use native.Mathlib.Omega.{arith}

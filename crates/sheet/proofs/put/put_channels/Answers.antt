@@ -1,5 +1,4 @@
--- `sheet::put::put_channels` meets its contract. The loop's invariant: the records of the first p cells are laid, and the
--- buffer is as long as it was. The measure is the number of cells left.
+-- `sheet::put::put_channels` meets its contract: the loop's invariant holds at the start and after each turn, and each way out follows from it.
 use Prim.Native.Nat.{◌*◌}
 use mathlib.Core.Path.{◌≡◌}
 use native.Mathlib.Nat.{zero-add}

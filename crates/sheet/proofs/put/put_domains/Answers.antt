@@ -1,5 +1,4 @@
--- `sheet::put::put_domains` meets its contract. The loop's invariant: the records of the first i domains are laid, and the
--- buffer is as long as it was. The measure is the number of domains left.
+-- `sheet::put::put_domains` meets its contract: the loop's invariant holds at the start and after each turn, and each way out follows from it.
 use mathlib.Core.Path.{◌≡◌}
 use native.Mathlib.Nat.{zero-add}
 use native.Mathlib.Omega.{arith}

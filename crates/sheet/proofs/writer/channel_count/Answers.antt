@@ -1,5 +1,4 @@
--- `sheet::writer::channel_count` meets its contract. The loop's invariant: n is the number of marks in the first p cells. The
--- measure is the number of cells left.
+-- `sheet::writer::channel_count` meets its contract: the loop's invariant holds at the start and after each turn, and each way out follows from it.
 use Prim.Native.Nat.{ℕ, ◌+◌, ◌*◌}
 use mathlib.Core.Path.{◌≡◌, ap}
 use native.Mathlib.Nat.{add-zero, zero-add}

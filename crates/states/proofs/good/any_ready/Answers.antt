@@ -1,4 +1,4 @@
--- `states::good::any_ready` meets its contract. The loop's invariant: the first n domains decide as all do. The measure is n.
+-- `states::good::any_ready` meets its contract: the loop's invariant holds at the start and after each turn, and each way out follows from it.
 use mathlib.Core.Path.{refl, sym, ◌∙◌}
 use native.Mathlib.Omega.{arith}
 use Rattle.model.proofs.LoopLaws.{spent}

@@ -1,5 +1,4 @@
--- `states::good::contexts_good` meets its contract. The loop's invariant: the first n contexts decide as all eight do. The
--- measure is n.
+-- `states::good::contexts_good` meets its contract: the loop's invariant holds at the start and after each turn, and each way out follows from it.
 use mathlib.Core.Path.{refl, sym, ◌∙◌}
 use native.Mathlib.Omega.{arith}
 use Rattle.model.proofs.LoopLaws.{spent}

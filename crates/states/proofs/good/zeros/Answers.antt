@@ -1,4 +1,4 @@
--- `states::good::zeros` meets its contract. The loop's invariant: the first n numbers decide as all eight do. The measure is n.
+-- `states::good::zeros` meets its contract: the loop's invariant holds at the start and after each turn, and each way out follows from it.
 use mathlib.Core.Path.{refl, sym, ◌∙◌}
 use native.Mathlib.Omega.{arith}
 use borrow.Author.Tests.{eq-eqb, ne_eqb}

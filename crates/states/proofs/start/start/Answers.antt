@@ -1,5 +1,4 @@
--- `states::start::start` meets its contract. The loop's invariant: the domains from i on, put into the contexts as they are, come
--- to what all of them come to. The measure is the number of domains left.
+-- `states::start::start` meets its contract: the loop's invariant holds at the start and after each turn, and each way out follows from it.
 use Prim.Native.Nat.{◌-◌}
 use mathlib.Core.Path.{refl, sym, ◌∙◌}
 use native.Mathlib.Nat.{sub-zero}

@@ -1,5 +1,4 @@
--- `states::switch::first_ready` meets its contract. The loop's invariant: the n that come after `at` decide as all that come
--- after d. The measure is n.
+-- `states::switch::first_ready` meets its contract: the loop's invariant holds at the start and after each turn, and each way out follows from it.
 use Prim.Native.Nat.{◌≤◌}
 use mathlib.Core.Path.{◌≡◌, refl, sym, ◌∙◌}
 use native.Mathlib.Omega.{arith}
