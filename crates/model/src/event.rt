@@ -2,14 +2,14 @@
 use crate::refusal::Refusal;
 use crate::state::Reason;
 
-#[derive(Clone, Copy)]
+#[derive(Clone, Copy, PartialEq, Eq, Debug)]
 pub enum Event {
     Step,
     Tick,
     WordIn(u8, u32),
 }
 
-#[derive(Clone, Copy)]
+#[derive(Clone, Copy, PartialEq, Eq, Debug)]
 pub enum Answer {
     Idle,
     Ran(u8),
@@ -23,7 +23,7 @@ pub enum Answer {
 }
 
 // What stands at the front of a trace: an event and how many bytes it takes, or 11 or 12.
-#[derive(Clone, Copy)]
+#[derive(Clone, Copy, PartialEq, Eq, Debug)]
 pub enum EventRead {
     Whole(Event, usize),
     Broken(Refusal),

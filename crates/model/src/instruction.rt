@@ -1,5 +1,5 @@
 // "Instructions": what a kind byte is decoded to.
-#[derive(Clone, Copy)]
+#[derive(Clone, Copy, PartialEq, Eq, Debug)]
 pub enum Effect {
     Nothing,
     Set,
@@ -24,7 +24,7 @@ pub enum Effect {
 }
 
 // The body's length and the effect.
-#[derive(Clone, Copy)]
+#[derive(Clone, Copy, PartialEq, Eq, Debug)]
 pub struct Decoded {
     pub length: u32,
     pub effect: Effect,

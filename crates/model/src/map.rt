@@ -2,20 +2,20 @@
 use crate::MOST;
 
 // Half open: begin up to but without end.
-#[derive(Clone, Copy)]
+#[derive(Clone, Copy, PartialEq, Eq, Debug, Default)]
 pub struct Region {
     pub begin: u32,
     pub end: u32,
 }
 
-#[derive(Clone, Copy)]
+#[derive(Clone, Copy, PartialEq, Eq, Debug, Default)]
 pub struct Domain {
     pub code: Region,
     pub data: Region,
     pub entry: u32,
 }
 
-#[derive(Clone, Copy)]
+#[derive(Clone, Copy, PartialEq, Eq, Debug, Default)]
 pub struct Map {
     pub length: u32,
     pub kernel: Region,
@@ -23,7 +23,7 @@ pub struct Map {
     pub domains: [Domain; MOST],
 }
 
-#[derive(Clone, Copy)]
+#[derive(Clone, Copy, PartialEq, Eq, Debug)]
 pub enum Access {
     Read,
     Write,

@@ -1,5 +1,5 @@
 // "Refusal numbers": one case a row of the table. `refusal_number` in specs/Refusals.antt gives the number.
-#[derive(Clone, Copy)]
+#[derive(Clone, Copy, PartialEq, Eq, Debug)]
 pub enum Refusal {
     Short,
     Kind,

@@ -1,7 +1,7 @@
 // "The state".
 use crate::MOST;
 
-#[derive(Clone, Copy)]
+#[derive(Clone, Copy, PartialEq, Eq, Debug)]
 pub enum Reason {
     Fetch(u64),
     Read(u64),
@@ -12,22 +12,23 @@ pub enum Reason {
 }
 
 // Halted comes first: it is what a place past an array's end reads as.
-#[derive(Clone, Copy)]
+#[derive(Clone, Copy, PartialEq, Eq, Debug, Default)]
 pub enum Status {
+    #[default]
     Halted,
     Ready,
     Waiting,
     Faulted(Reason),
 }
 
-#[derive(Clone, Copy)]
+#[derive(Clone, Copy, PartialEq, Eq, Debug, Default)]
 pub struct Mailbox {
     pub full: bool,
     pub word: u32,
     pub sender: u8,
 }
 
-#[derive(Clone, Copy)]
+#[derive(Clone, Copy, PartialEq, Eq, Debug, Default)]
 pub struct Context {
     pub registers: [u32; 8],
     pub counter: u32,
@@ -35,7 +36,7 @@ pub struct Context {
     pub mailbox: Mailbox,
 }
 
-#[derive(Clone, Copy)]
+#[derive(Clone, Copy, PartialEq, Eq, Debug, Default)]
 pub struct State {
     pub active: u8,
     pub contexts: [Context; MOST],
