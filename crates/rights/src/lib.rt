@@ -2,6 +2,7 @@
 #![tactic(auto)]
 
 pub mod channel;
+pub mod count;
 pub mod domain;
 pub mod region;
 pub mod verdict;
