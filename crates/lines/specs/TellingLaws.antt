@@ -1,7 +1,7 @@
 -- Laws of Telling: how a trace is gone through.
 --     tells_start, tells_end, tells_broken, tells_whole
 -- Assumes nothing.
-use Rattle.std.specs.Prelude.{ℕ, ◌+◌, ◌≤◌, ◌<◌, ◌≡◌, List, ◌++◌, length, drop}
+use Rattle.std.specs.Prelude.{ℕ, ◌+◌, ◌≤◌, ◌<◌, ◌≡◌, List, ◌++◌, length, drop, Ok, Err}
 use Rattle.std.proofs.Math.Path.{sym, ap}
 use Rattle.std.proofs.Common.{◌∙◌, append_assoc}
 use Rattle.model.specs.Map.{Grid}
@@ -13,7 +13,6 @@ use Rattle.model.specs.Program.{event_line, event_lines, active_line, refusal_at
 use Rattle.model.specs.declared.map.Map.{Map}
 use Rattle.model.specs.declared.state.State.{State}
 use Rattle.model.specs.declared.event.Event.{Event}
-use Rattle.model.specs.declared.event.EventRead.{EventRead}
 use Rattle.model.specs.declared.refusal.Refusal.{Refusal}
 use Rattle.lines.specs.Puts.{Place, puts}
 use Rattle.lines.specs.PutsLaws.{puts_append, puts_laid}
@@ -37,7 +36,7 @@ module _ (m : Map) (g : Grid) (bytes : List ℕ) where
 
     module _ (h : at < length bytes) where
       pub tells_broken :
-          (r : Refusal) → event_read (drop at bytes) ≡ EventRead.Broken r
+          (r : Refusal) → event_read (drop at bytes) ≡ Err r
           → left (puts (puts x (refusal_at_line r at)) (active_line s.active)) memory ≡ tells m g bytes at n x s memory
       unfolding tells run event_lines
       tells_broken r e =
@@ -45,7 +44,7 @@ module _ (m : Map) (g : Grid) (bytes : List ℕ) where
           ∙ sym (ap (λ t. over t n x s memory) (rest_broken bytes at h r e))
 
       pub tells_whole :
-          (e : Event) (k : ℕ) → event_read (drop at bytes) ≡ EventRead.Whole e k
+          (e : Event) (k : ℕ) → event_read (drop at bytes) ≡ Ok (e, k)
           → let o = event m g s memory e in
           tells m g bytes at n x s memory ≡ tells m g bytes (at + k) (n + 1) (puts x (event_line (n + 1) o.answer)) o.state o.memory
       unfolding tells run event_lines

@@ -16,3 +16,10 @@ pub enum Refusal {
     Malformed,
     NoDomain,
 }
+
+// A refusal and the offset of its record.
+#[derive(Clone, Copy, PartialEq, Eq, Debug)]
+pub struct RefusedAt {
+    pub refusal: Refusal,
+    pub at: usize,
+}

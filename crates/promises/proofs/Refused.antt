@@ -3,7 +3,7 @@
 --     unchanged         a call that refuses gives back what it was given, with counts 0; start, the reader and the view as 01 says for them
 --     prints_refusal    the same of the text: one line, and the memory as it came
 -- Assumes nothing.
-use Rattle.std.specs.Prelude.{ℕ, zero, suc, ◌≡◌, refl, Bool, true, false, List, [], ◌++◌, eqb, length}
+use Rattle.std.specs.Prelude.{ℕ, zero, suc, ◌≡◌, refl, Bool, true, false, List, [], ◌++◌, eqb, length, Ok, Err}
 use Rattle.std.proofs.Common.{sym, ap, ◌∙◌}
 use Rattle.model.proofs.BasicsLaws.{by_bool}
 use Rattle.model.specs.Map.{Grid, domain, may}
@@ -15,10 +15,9 @@ use Rattle.model.specs.Calls.{left, named, lent_verdict, node_verdict, permissio
 use Rattle.model.specs.Program.{words, decimal, refusal_line, refusal_at_line, prints, of_sheet, transcript}
 use Rattle.model.specs.declared.map.Map.{Map}
 use Rattle.model.specs.declared.state.State.{State}
-use Rattle.model.specs.declared.event.EventRead.{EventRead}
+use Rattle.model.specs.declared.call.Stop.{Stop}
+use Rattle.model.specs.Answers.{EventRead, Verdict, Close}
 use Rattle.model.specs.declared.refusal.Refusal.{Refusal}
-use Rattle.model.specs.declared.call.Verdict.{Verdict}
-use Rattle.model.specs.declared.call.Close.{Close}
 use Rattle.promises.specs.Public.{Call, value}
 use Rattle.promises.specs.Tests.{Ruling, ruling, nine, sheet_tests, tests}
 use Rattle.promises.specs.Traces.{Closing, trace_number}
@@ -29,43 +28,43 @@ use Rattle.promises.specs.Refused.{of_permission, of_reading, of_writing, of_rep
 -- ---- what each call says, of the verdict or of the bytes
 
 permission_says : (v : Verdict) (b : Bool) → of_permission (permission v b) ≡ of_verdict 0 v
-permission_says Verdict.Accepted true = refl
-permission_says Verdict.Accepted false = refl
-permission_says (Verdict.Refused r) b = refl
+permission_says (Ok tt) true = refl
+permission_says (Ok tt) false = refl
+permission_says (Err r) b = refl
 
 found_says : (f : Found) → of_reading (reported f).value.reading ≡ of_found f
 found_says (Found.whole m g) = refl
 found_says (Found.refused r at) = refl
 
 written_says : (v : Verdict) (s buffer : List ℕ) → of_writing (written v s buffer).value ≡ of_verdict 0 v
-written_says Verdict.Accepted s buffer = refl
-written_says (Verdict.Refused r) s buffer = refl
+written_says (Ok tt) s buffer = refl
+written_says (Err r) s buffer = refl
 
 started_says : (v : Verdict) (s : State) → of_verdict 0 (started v s).verdict ≡ of_verdict 0 v
-started_says Verdict.Accepted s = refl
-started_says (Verdict.Refused r) s = refl
+started_says (Ok tt) s = refl
+started_says (Err r) s = refl
 
 stepped_says : (v : Verdict) (s : State) (memory : List ℕ) (o : Outcome) → of_reply (stepped v s memory o).value.reply ≡ of_verdict 0 v
-stepped_says Verdict.Accepted s memory o = refl
-stepped_says (Verdict.Refused r) s memory o = refl
+stepped_says (Ok tt) s memory o = refl
+stepped_says (Err r) s memory o = refl
 
 played_says :
     (v : Verdict) (s : State) (memory : List ℕ) (t : Trace) (r : Run) → of_close t.close ≡ Ruling.accepted
     → of_close (played v s memory t r).value.close ≡ of_verdict 0 v
-played_says Verdict.Accepted s memory t r e = e
-played_says (Verdict.Refused x) s memory t r e = refl
+played_says (Ok tt) s memory t r e = e
+played_says (Err x) s memory t r e = refl
 
 batched_says :
     (v : Verdict) (s : State) (memory : List ℕ) (b : Batch) → of_ending b.ending ≡ Ruling.accepted
     → of_ending (batched v s memory b).value.ending ≡ of_verdict 0 v
-batched_says Verdict.Accepted s memory b e = e
-batched_says (Verdict.Refused r) s memory b e = refl
+batched_says (Ok tt) s memory b e = e
+batched_says (Err r) s memory b e = refl
 
 -- a trace that is read, and a batch that is run, are no refusals
 closing_accepted : (x : Close) → Closing x → of_close x ≡ Ruling.accepted
-closing_accepted Close.Done h = refl
-closing_accepted (Close.Broken r at) h = refl
-closing_accepted (Close.Refused r) h = absurd h
+closing_accepted (Ok tt) h = refl
+closing_accepted (Err (Stop.Broken f)) h = refl
+closing_accepted (Err (Stop.Refused r)) h = absurd h
 
 trace_accepted : (bytes : List ℕ) → of_close (trace_of 0 bytes).close ≡ Ruling.accepted
 trace_accepted bytes = closing_accepted (trace_of 0 bytes).close (trace_number (length bytes) 0 bytes)
@@ -99,18 +98,18 @@ which (Call.batching m g s memory limit) =
 -- a number that is said is that of the verdict's refusal, so what follows from the verdict is the refused call's
 follows :
     {A : Type 0} (f : Verdict → A) (v : Verdict) {n at : ℕ} → of_verdict 0 v ≡ Ruling.refused n at
-    → Numbered n (λ r. f v ≡ f (Verdict.Refused r))
-follows f Verdict.Accepted e = (Refusal.Short, (cc), (cc))
-follows f (Verdict.Refused r) e = (r, (cc), refl)
+    → Numbered n (λ r. f v ≡ f (Err r))
+follows f (Ok tt) e = (Refusal.Short, (cc), (cc))
+follows f (Err r) e = (r, (cc), refl)
 
 found_refuses :
     (f : Found) {n at : ℕ} → of_found f ≡ Ruling.refused n at → Numbered n (λ r. reported f ≡ reported (Found.refused r at))
 found_refuses (Found.whole m g) e = (Refusal.Short, (cc), (cc))
 found_refuses (Found.refused r at) e = (r, (cc), (cc))
 
-event_refuses : (x : EventRead) {n at : ℕ} → of_event x ≡ Ruling.refused n at → Numbered n (λ r. x ≡ EventRead.Broken r)
-event_refuses (EventRead.Whole e n) q = (Refusal.Short, (cc), (cc))
-event_refuses (EventRead.Broken r) q = (r, (cc), refl)
+event_refuses : (x : EventRead) {n at : ℕ} → of_event x ≡ Ruling.refused n at → Numbered n (λ r. x ≡ Err r)
+event_refuses (Ok (e, n)) q = (Refusal.Short, (cc), (cc))
+event_refuses (Err r) q = (r, (cc), refl)
 
 pub unchanged : (c : Call) (n at : ℕ) → says c (value c) ≡ Ruling.refused n at → Refuses c n at
 unfolding question view reader writer starter stepper player batcher

@@ -5,7 +5,7 @@
 --     both_coincide     what is returned, and what was lent, each
 -- `step`, `tick` and `word_in` are `event` at their event. A view stands beside its companion's number.
 -- Assumes nothing.
-use Rattle.std.specs.Prelude.{ℕ, ◌≡◌, List}
+use Rattle.std.specs.Prelude.{ℕ, ◌≡◌, List, Result}
 use Rattle.std.proofs.Common.{sym, ap, ◌∙◌}
 use Rattle.model.specs.Map.{Grid}
 use Rattle.model.specs.Refusals.{accepts}
@@ -16,11 +16,8 @@ use Rattle.model.specs.declared.map.Map.{Map}
 use Rattle.model.specs.declared.map.Access.{Access}
 use Rattle.model.specs.declared.state.State.{State}
 use Rattle.model.specs.declared.event.Event.{Event}
-use Rattle.model.specs.declared.event.EventRead.{EventRead}
-use Rattle.model.specs.declared.call.Verdict.{Verdict}
-use Rattle.model.specs.declared.call.Permission.{Permission}
+use Rattle.model.specs.Answers.{EventRead, Verdict, Permission, Writing}
 use Rattle.model.specs.declared.call.Sheet.{Sheet}
-use Rattle.model.specs.declared.call.Writing.{Writing}
 use Rattle.model.specs.declared.call.Started.{Started}
 use Rattle.model.specs.declared.call.Stepped.{Stepped}
 use Rattle.model.specs.declared.call.Played.{Played}

@@ -3,29 +3,28 @@
 --     Reads       a reading is what some tests come to
 -- The laws are in proofs/Ruled.antt.
 -- Assumes nothing.
-use Rattle.std.specs.Prelude.{ℕ, ◌≡◌, List, leb, length}
+use Rattle.std.specs.Prelude.{ℕ, ◌≡◌, List, leb, length, Ok, Err}
 use Rattle.model.specs.Map.{Grid}
 use Rattle.model.specs.Refusals.{refusal_number, check, ◌▸◌, accepts}
 use Rattle.model.specs.Sheet.{Found, sheet_bytes}
 use Rattle.model.specs.declared.map.Map.{Map}
-use Rattle.model.specs.declared.event.EventRead.{EventRead}
+use Rattle.model.specs.Answers.{EventRead, Verdict}
 use Rattle.model.specs.declared.refusal.Refusal.{Refusal}
-use Rattle.model.specs.declared.call.Verdict.{Verdict}
 use Rattle.promises.specs.Tests.{Test, Ruling, ruling}
 
 -- ---- what a verdict, a reading and an event's reading say
 
 abbrev pub of_verdict : ℕ → Verdict → Ruling
-of_verdict at Verdict.Accepted = Ruling.accepted
-of_verdict at (Verdict.Refused r) = Ruling.refused (refusal_number r) at
+of_verdict at (Ok tt) = Ruling.accepted
+of_verdict at (Err r) = Ruling.refused (refusal_number r) at
 
 abbrev pub of_found : Found → Ruling
 of_found (Found.whole m g) = Ruling.accepted
 of_found (Found.refused r at) = Ruling.refused (refusal_number r) at
 
 abbrev pub of_event : EventRead → Ruling
-of_event (EventRead.Whole e n) = Ruling.accepted
-of_event (EventRead.Broken r) = Ruling.refused (refusal_number r) 0
+of_event (Ok (e, n)) = Ruling.accepted
+of_event (Err r) = Ruling.refused (refusal_number r) 0
 
 -- ---- tests in a row
 

@@ -12,8 +12,7 @@ use Rattle.model.specs.declared.map.Domain.{Domain}
 use Rattle.model.specs.declared.map.Map.{Map}
 use Rattle.model.specs.declared.map.Access.{Access}
 use Rattle.model.specs.declared.refusal.Refusal.{Refusal}
-use Rattle.model.specs.declared.call.Verdict.{Verdict}
-use Rattle.model.specs.declared.call.Permission.{Permission}
+use Rattle.model.specs.Answers.{Verdict, Permission}
 
 -- ---- a domain: the two tests with 4 are one, and so are those with 6
 
@@ -33,11 +32,11 @@ module _ (m : Map) (i : ℕ) (d : Domain) where
       ∙ rw (check_last (clear m d.code i) (clear m d.«data» i && not (overlaps d.«data» d.code)) Refusal.Overlap)
 
   module _ {b : Bool} (B : b ≡ bounded) where
-    pub domain_bounds : b ≡ false → Verdict.Refused Refusal.Bounds ≡ domain_verdict m i d
+    pub domain_bounds : b ≡ false → Err Refusal.Bounds ≡ domain_verdict m i d
     domain_bounds f = sym (tests ∙ then_stop _ (check_stop _ B f))
 
     module _ (t : b ≡ true) {e : Bool} (E : e ≡ inside d.code d.entry) where
-      pub domain_entry : e ≡ false → Verdict.Refused Refusal.Entry ≡ domain_verdict m i d
+      pub domain_entry : e ≡ false → Err Refusal.Entry ≡ domain_verdict m i d
       domain_entry f = sym (tests ∙ then_pass _ (check_pass _ B t) ∙ then_stop _ (check_stop _ E f))
 
       pub domain_last : {o : Bool} {v : Verdict} → e ≡ true → o ≡ apart → v ≡ check o Refusal.Overlap → v ≡ domain_verdict m i d
@@ -57,18 +56,18 @@ module _ (m : Map) where
   map_tests = check_two (counted m.count) (unused_zero m most) Refusal.Kind _
 
   module _ {k : Bool} (K : k ≡ counted m.count && unused_zero m most) where
-    pub map_kind : k ≡ false → Verdict.Refused Refusal.Kind ≡ map_verdict m
+    pub map_kind : k ≡ false → Err Refusal.Kind ≡ map_verdict m
     map_kind f = sym (map_tests ∙ then_stop _ (check_stop _ K f))
 
     module _ (t : k ≡ true) {l : Bool} (L : l ≡ sized m.length) where
-      pub map_length : l ≡ false → Verdict.Refused Refusal.Length ≡ map_verdict m
+      pub map_length : l ≡ false → Err Refusal.Length ≡ map_verdict m
       map_length f = sym (map_tests ∙ then_pass _ (check_pass _ K t) ∙ then_stop _ (check_stop _ L f))
 
       module _ (u : l ≡ true) {b : Bool} (B : b ≡ within m.length m.kernel) where
         map_last : map_verdict m ≡ check (within m.length m.kernel) Refusal.Bounds ▸ domains_verdict m 0 m.count
         map_last = map_tests ∙ then_pass _ (check_pass _ K t) ∙ then_pass _ (check_pass _ L u)
 
-        pub map_kernel : b ≡ false → Verdict.Refused Refusal.Bounds ≡ map_verdict m
+        pub map_kernel : b ≡ false → Err Refusal.Bounds ≡ map_verdict m
         map_kernel f = sym (map_last ∙ then_stop _ (check_stop _ B f))
 
         pub map_domains : {v : Verdict} → b ≡ true → v ≡ domains_verdict m 0 m.count → v ≡ map_verdict m
@@ -77,17 +76,17 @@ module _ (m : Map) where
 -- ---- the question
 
 module _ (m : Map) (g : Grid) (d : ℕ) (k : Access) (a : ℕ) {v : Verdict} (A : v ≡ accepts m g) where
-  pub ask_refused : {r : Refusal} → v ≡ Verdict.Refused r → Permission.Refused r ≡ question m g d k a
+  pub ask_refused : {r : Refusal} → v ≡ Err r → Err r ≡ question m g d k a
   unfolding question named
   ask_refused w = rw (then_stop _ (sym A ∙ w))
 
-  module _ (w : v ≡ Verdict.Accepted) {x : Bool} (X : x ≡ is_domain m.count d) where
-    pub ask_nobody : x ≡ false → Permission.Refused Refusal.NoDomain ≡ question m g d k a
+  module _ (w : v ≡ Ok tt) {x : Bool} (X : x ≡ is_domain m.count d) where
+    pub ask_nobody : x ≡ false → Err Refusal.NoDomain ≡ question m g d k a
     unfolding question named
     ask_nobody f = rw (then_pass _ (sym A ∙ w), check_stop _ X f)
 
     pub ask_answered :
-        {b : Bool} {p : Permission} → x ≡ true → b ≡ may (domain m d) k a → p ≡ permission Verdict.Accepted b
+        {b : Bool} {p : Permission} → x ≡ true → b ≡ may (domain m d) k a → p ≡ permission (Ok tt) b
         → p ≡ question m g d k a
     unfolding question named
     ask_answered y B f = f ∙ rw (then_pass _ (sym A ∙ w), check_pass _ X y, B)

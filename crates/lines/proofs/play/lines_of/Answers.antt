@@ -12,7 +12,6 @@ use Rattle.model.proofs.TraceLaws.{rest_read, read_takes}
 use Rattle.model.specs.Calls.{left, starter}
 use Rattle.model.specs.Program.{of_trace, shown}
 use Rattle.model.specs.declared.map.Map.{Map}
-use Rattle.model.specs.declared.call.Verdict.{Verdict}
 use Rattle.model.specs.declared.call.Started.{Started}
 use Rattle.lines.specs.Telling.{tells}
 use Rattle.lines.specs.TellingLaws.{tells_start, tells_end}
@@ -21,7 +20,7 @@ use Rattle.lines.proofs.play.lines_of.Goals as goal
 
 -- the whole, from where the loop begins
 whole :
-    (m : Map) (g : Grid) (a : accepts m g ≡ Verdict.Accepted) (bytes memory out : List ℕ) {r : Started} → r ≡ starter m g
+    (m : Map) (g : Grid) (a : accepts m g ≡ Ok tt) (bytes memory out : List ℕ) {r : Started} → r ≡ starter m g
     → tells m g bytes 0 0 (left 0 out) r.state memory ≡ shown (of_trace m g memory bytes) out
 whole m g a bytes memory out q =
     ap (λ s. tells m g bytes 0 0 (left 0 out) s memory) (starts m g a q).0 ∙ tells_start m g bytes memory out

@@ -8,11 +8,11 @@ use lib.ListN.{length, get_or}
 use borrow.Author.Tests.{ne_eqb}
 use Rattle.model.specs.Events.{word_event, of_kind, event_read}
 use Rattle.model.specs.declared.event.Event.{Event}
-use Rattle.model.specs.declared.event.EventRead.{EventRead}
+use Rattle.model.specs.Answers.{EventRead}
 use Rattle.model.specs.declared.refusal.Refusal.{Refusal}
 use Rattle.machine.proofs.reader.event_at_front.Goals as goal
 
-reads-empty : (s : List ℕ) → length s ≡ 0 → EventRead.Broken Refusal.EventShort ≡ event_read s
+reads-empty : (s : List ℕ) → length s ≡ 0 → Err Refusal.EventShort ≡ event_read s
 unfolding event_read
 reads-empty [] e = refl
 reads-empty (k ∷ s) e = absurd (omega arith)
@@ -24,16 +24,16 @@ front-kind [] kind h q = absurd (h refl)
 front-kind (k ∷ s) kind h q = rw q
 
 module _ (s : List ℕ) (kind : ℕ) (h : length s ≢ 0) (q : kind ≡ get_or s 0 0) where
-  reads-step : kind ≡ 1 → EventRead.Whole Event.Step 1 ≡ event_read s
+  reads-step : kind ≡ 1 → Ok (Event.Step, 1) ≡ event_read s
   reads-step e = rw (front-kind s kind h q, e)
 
-  reads-tick : kind ≡ 2 → EventRead.Whole Event.Tick 1 ≡ event_read s
+  reads-tick : kind ≡ 2 → Ok (Event.Tick, 1) ≡ event_read s
   reads-tick e = rw (front-kind s kind h q, e)
 
   reads_word : kind ≡ 3 → (r : EventRead) → r ≡ word_event s → r ≡ event_read s
   reads_word e r w = rw (front-kind s kind h q, e) w
 
-  reads_none : kind ≢ 1 → kind ≢ 2 → kind ≢ 3 → EventRead.Broken Refusal.EventKind ≡ event_read s
+  reads_none : kind ≢ 1 → kind ≢ 2 → kind ≢ 3 → Err Refusal.EventKind ≡ event_read s
   reads_none a b c = rw (front-kind s kind h q, ne_eqb kind 1 a, ne_eqb kind 2 b, ne_eqb kind 3 c)
 
 pub returns-then-bytes-eq0 : goal.returns-then-bytes-eq0

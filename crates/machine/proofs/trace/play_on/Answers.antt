@@ -13,7 +13,6 @@ use Rattle.model.specs.declared.map.Map.{Map}
 use Rattle.model.specs.declared.state.State.{State}
 use Rattle.model.specs.declared.event.Answer.{Answer}
 use Rattle.model.specs.declared.event.Event.{Event}
-use Rattle.model.specs.declared.event.EventRead.{EventRead}
 use Rattle.promises.specs.Kept.{each_keeps}
 use Rattle.machine.specs.Playing.{closed, plays}
 use Rattle.machine.specs.PlayingLaws.{plays_end, plays_broken, plays_whole}
@@ -21,7 +20,7 @@ use Rattle.machine.proofs.trace.play_on.Goals as goal
 
 -- at the bytes from `at` on: an event, and what it makes of the node
 turn :
-    (bytes : List ℕ) (at : ℕ) → at < length bytes → (e : Event) (n : ℕ) → event_read (drop at bytes) ≡ EventRead.Whole e n
+    (bytes : List ℕ) (at : ℕ) → at < length bytes → (e : Event) (n : ℕ) → event_read (drop at bytes) ≡ Ok (e, n)
     → (m : Map) (g : Grid) (k : ℕ) (s : State) (memory : List ℕ) (a : Answer) (t : State) (memory' : List ℕ)
     → Sound m.count s → k ≤ at → gives a t memory' ≡ event m g s memory e
     → (length memory' ≡ length memory) × Sound m.count t × (k + 1 ≤ at + n)
