@@ -1,13 +1,11 @@
--- `rights::acceptable` meets its contract. The map's verdict comes first, then 7 over the grid.
-use mathlib.Core.Path.{sym, ◌∙◌}
+use Rattle.std.proofs.Common.{rules}
 use Rattle.model.specs.Refusals.{accepts}
-use Rattle.model.proofs.TestLaws.{then_pass, then_stop}
 use Rattle.rights.proofs.acceptable.Goals as goal
 
-pub returns-in-Refused : goal.returns-in-Refused
+pub returns-in_err-map_verdict : goal.returns-in_err-map_verdict
 unfolding accepts
-returns-in-Refused c = sym (then_stop _ (sym c.map_verdict-verdict.ensures ∙ c.in-Refused.is))
+returns-in_err-map_verdict c = search rules
 
-pub returns-in-Accepted : goal.returns-in-Accepted
+pub returns : goal.returns
 unfolding accepts
-returns-in-Accepted c = c.check.ensures ∙ rw c.channels_good.ensures (sym (then_pass _ (sym c.map_verdict-verdict.ensures ∙ c.in-Accepted.is)))
+returns c = search rules
