@@ -18,7 +18,7 @@ use Rattle.model.specs.declared.state.State.{State}
 use Rattle.model.specs.declared.refusal.Refusal.{Refusal}
 use Rattle.model.specs.Answers.{Verdict}
 use Rattle.promises.specs.Tests.{Test, test, present, Ruling, ruling, domain_tests, each_domain, map_tests, nine, fourteen, ten, node_tests, last_tests, channel_tests, record_tests, kernel_tests, sheet_tests, event_tests}
-use Rattle.promises.specs.Ruled.{of_event, Rules, fitting, Reads}
+use Rattle.promises.specs.Ruled.{of_answer, Rules, fitting, Reads}
 
 -- ---- tests in a row
 
@@ -167,7 +167,7 @@ sheet_read_by (k ∷ rest) =
 
 -- ---- an event's tests
 
-pub event_ruled : (s : List ℕ) → of_event (event_read s) ≡ ruling (event_tests s)
+pub event_ruled : (s : List ℕ) → of_answer 0 (event_read s) ≡ ruling (event_tests s)
 unfolding event_read
 event_ruled [] = refl
 event_ruled (k ∷ s) =
