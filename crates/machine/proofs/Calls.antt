@@ -1,4 +1,4 @@
--- The exits of the calls on a node: refused, and done on a node that was tested.
+-- The calls on a node that was tested.
 -- Assumes nothing.
 use Rattle.std.specs.Prelude.{if◌then◌else◌, Ok, Err}
 use Prim.Native.Nat.{ℕ, ◌-◌, ◌≤◌}
@@ -28,21 +28,6 @@ use Rattle.machine.specs.PlayingLaws.{plays_start}
 use Rattle.machine.specs.BatchLaws.{batch_of, steps_left, batch_steps}
 
 module _ (m : Map) (g : Grid) (s : State) (memory : List ℕ) {v : Verdict} (N : v ≡ node_verdict m g s memory) where
-  module _ {r : Refusal} (f : v ≡ Err r) where
-    pub event_refused : (e : Event) → left (record { reply = Err r; state = s }) memory ≡ stepper m g s memory e
-    unfolding stepper
-    event_refused e = rw (sym N, f)
-
-    pub play_refused :
-        (bytes : List ℕ) → left (record { close = Err (Stop.Refused r); events = 0; state = s }) memory ≡ player m g s memory bytes
-    unfolding player
-    play_refused bytes = rw (sym N, f)
-
-    pub batch_refused :
-        (limit : ℕ) → left (record { ending = Err r; steps = 0; state = s }) memory ≡ batcher m g s memory limit
-    unfolding batcher
-    batch_refused limit = rw (sym N, f)
-
   module _ (f : v ≡ Ok tt) where
     -- what the tests give to the functions that were spared them
     pub tested : length s.contexts ≡ most → Sound m.count s
@@ -70,7 +55,7 @@ module _ (m : Map) (g : Grid) (s : State) (memory : List ℕ) {v : Verdict} (N :
 
       pub batch_done :
           {k : ℕ} {y : Ending} → k ≡ limit - n → y ≡ (if eqb n 0 then Ending.Spent else Ending.Idle)
-          → left (record { ending = y; steps = k; state = t }) memory' ≡ batcher m g s memory limit
+          → left (record { ending = Ok y; steps = k; state = t }) memory' ≡ batcher m g s memory limit
       unfolding batcher
       batch_done K Y =
           rw (K, Y) (ap (λ r. batched (Ok tt) s memory (batch_of limit r)) d

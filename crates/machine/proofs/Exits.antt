@@ -1,6 +1,6 @@
--- Each exit of the calls that make several tests, over plain values: what the code found of a test is the definition's test,
--- and the way that it fell is the definition's verdict.
+-- What an accepted view stands on.
 -- Assumes nothing.
+use Rattle.std.specs.Prelude.{Ok, Err}
 use Prim.Native.Nat.{ℕ, ◌-◌, ◌≤◌, ◌<◌}
 use mathlib.Core.Path.{◌≡◌, refl, sym, ◌∙◌}
 use mathlib.Core.List.{List, []}
@@ -23,61 +23,11 @@ use Rattle.model.specs.declared.refusal.Refusal.{Refusal}
 use Rattle.model.specs.Answers.{Verdict}
 use Rattle.model.specs.declared.call.Started.{Started}
 
--- ---- the two verdicts: the map and grid with 9, then one last test
-
-unfoldable pub tests : Map → Grid → List ℕ → Verdict → Verdict
-tests m g memory w = (accepts m g ▸ as_long m memory) ▸ w
-
-then_then : (u v w : Verdict) → u ▸ v ▸ w ≡ (u ▸ v) ▸ w
-then_then (Ok tt) v w = refl
-then_then (Err r) v w = refl
-
-pub lent_tests :
-    (m : Map) (g : Grid) (memory : List ℕ) (d : ℕ)
-    → lent_verdict m g memory d ≡ tests m g memory (check (is_domain m.count d) Refusal.NoDomain)
-unfolding tests lent_verdict
-lent_tests m g memory d = then_then (accepts m g) (as_long m memory) _
-
-pub node_tests :
-    (m : Map) (g : Grid) (s : State) (memory : List ℕ)
-    → node_verdict m g s memory ≡ tests m g memory (check (well_formed m.count s) Refusal.Malformed)
-unfolding tests node_verdict
-node_tests m g s memory = then_then (accepts m g) (as_long m memory) _
-
-module _
-    (m : Map) (g : Grid) (memory : List ℕ) (w : Verdict) {u v : Verdict} (U : u ≡ tests m g memory w)
-    (A : v ≡ accepts m g ▸ as_long m memory) where
-  pub tests_refused : {r : Refusal} → v ≡ Err r → Err r ≡ u
-  unfolding tests
-  tests_refused e = sym (U ∙ then_stop w (sym A ∙ e))
-
-  pub tests_last : {y : Verdict} → v ≡ Ok tt → y ≡ w → y ≡ u
-  unfolding tests
-  tests_last e W = W ∙ sym (U ∙ then_pass w (sym A ∙ e))
-
--- ---- start
-
-abbrev found : Verdict → State → Started
-found v s = record { verdict = v; state = s }
-
-module _ (m : Map) (g : Grid) {v : Verdict} {s : State} (A : v ≡ accepts m g) where
-  pub start_refused : {r : Refusal} → v ≡ Err r → s ≡ no_state → found v s ≡ starter m g
-  unfolding starter
-  start_refused e f = rw (sym A, e, f)
-
-  pub start_ready : v ≡ Ok tt → s ≡ start m → found v s ≡ starter m g
-  unfolding starter
-  start_ready e f = rw (sym A, e, f)
-
 -- ---- the view: an accepted call names one of the map's eight entries, and the entry's data lies in the lent memory
 
 module _ (m : Map) (g : Grid) (memory : List ℕ) (d : ℕ) {v : Verdict} (A : v ≡ lent_verdict m g memory d) where
   abbrev own : Region
   own = (domain m d).«data»
-
-  pub view_refused : {r : Refusal} → v ≡ Err r → [] ≡ view m g memory d
-  unfolding view
-  view_refused e = rw (sym A, e)
 
   module _ (e : v ≡ Ok tt) where
     pub view_part : take (own.end - own.begin) (drop own.begin memory) ≡ view m g memory d

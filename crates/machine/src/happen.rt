@@ -17,11 +17,9 @@ pub fn happen(m: Map, g: [[bool; MOST]; MOST], s: State, memory: &mut [u8], e: E
     match e {
         Event::Step => {
             let done = run(m, g, s, memory, 1);
-            let answer = done.answer;
-            let after = done.state;
             Happened {
-                answer: answer,
-                state: after,
+                answer: done.answer,
+                state: done.state,
             }
         }
         Event::Tick => tick(m.count, s),

@@ -7,18 +7,19 @@ ghost use Rattle.machine.specs.Playing.{closed, plays};
 use crate::happen::happen;
 use crate::reader::event_at_front;
 use model::MOST;
-use model::call::{Close, Played};
+use model::call::{Played, Stop};
 use model::event::EventRead;
 use model::map::Map;
+use model::refusal::RefusedAt;
 use model::state::State;
 
 // 11 or 12, and the offset.
-fn broken(read: EventRead, at: usize) -> Close
+fn broken(read: EventRead, at: usize) -> Result<(), Stop>
     ensures { result ≡ closed read at }
 {
     match read {
-        EventRead::Whole(_, _) => Close::Done,
-        EventRead::Broken(r) => Close::Broken(r, at),
+        Ok(_) => Ok(()),
+        Err(refusal) => Err(Stop::Broken(RefusedAt { refusal, at })),
     }
 }
 
@@ -26,26 +27,26 @@ pub fn play_on(m: Map, g: [[bool; MOST]; MOST], s: State, memory: &mut [u8], tra
     requires { Sound m.count s }
     ensures { left result memory.new ≡ plays m g trace.now 0 0 s memory.old }
 {
-    let mut t = s;
+    let mut state = s;
     let mut at = 0;
     let mut events = 0;
+    // a record takes as many bytes as its kind says: no index is counted, and no iterator of the library goes so
     while at < trace.len() {
         let read = event_at_front(&trace[at..]);
-        let EventRead::Whole(e, n) = read else {
+        let Ok((e, n)) = read else {
             return Played {
                 close: broken(read, at),
-                events: events,
-                state: t,
+                events,
+                state,
             };
         };
-        let done = happen(m, g, t, memory, e);
-        t = done.state;
+        state = happen(m, g, state, memory, e).state;
         at += n;
         events += 1;
     }
     Played {
-        close: Close::Done,
-        events: events,
-        state: t,
+        close: Ok(()),
+        events,
+        state,
     }
 }

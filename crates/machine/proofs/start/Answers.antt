@@ -1,16 +1,16 @@
--- `machine::start` meets its contract. Each exit is a law of the start; an acceptable map has at most eight domains.
-use mathlib.Core.Path.{sym, ◌∙◌}
+-- An acceptable map has at most eight domains.
+use Rattle.std.proofs.Common.{rules}
+use Rattle.model.specs.Calls.{starter}
 use Rattle.model.proofs.RefusalsLaws.{acceptable}
-use Rattle.machine.proofs.Exits.{start_refused, start_ready}
 use Rattle.machine.proofs.start.Goals as goal
 
-pub start-requires : goal.start-requires
-start-requires c =
-    let a = c.args in
-    (acceptable a.m a.g (sym c.acceptable-verdict.ensures ∙ c.in-Accepted.is)).few
+pub start-state-requires : goal.start-state-requires
+start-state-requires c = (acceptable c.args.m c.args.g (search rules)).few
 
-pub returns-in-Refused : goal.returns-in-Refused
-returns-in-Refused c = search start_refused
+pub returns-in-Ok : goal.returns-in-Ok
+unfolding starter
+returns-in-Ok c = search rules
 
-pub returns-in-Accepted : goal.returns-in-Accepted
-returns-in-Accepted c = search start_ready
+pub returns-in-Err : goal.returns-in-Err
+unfolding starter
+returns-in-Err c = search rules

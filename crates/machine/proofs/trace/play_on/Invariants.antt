@@ -8,8 +8,8 @@ use Rattle.machine.specs.Playing.{plays}
 use Rattle.machine.proofs.trace.play_on.Given as goal
 
 abbrev pub invariant-loop-at : goal.invariant-loop-at
-invariant-loop-at l = (length l.memory ≡ length l.initial.memory) × Sound l.m.count l.t × (l.events ≤ l.at)
-    × (plays l.m l.g l.trace l.at l.events l.t l.memory ≡ plays l.m l.g l.trace 0 0 l.initial.t l.initial.memory)
+invariant-loop-at l = (length l.memory ≡ length l.initial.memory) × Sound l.m.count l.state × (l.events ≤ l.at)
+    × (plays l.m l.g l.trace l.at l.events l.state l.memory ≡ plays l.m l.g l.trace 0 0 l.initial.state l.initial.memory)
 
 abbrev pub decreases-loop-at : goal.decreases-loop-at
 decreases-loop-at l = length l.trace - l.at
