@@ -12,6 +12,7 @@ use model::map::{Access, Domain, Map, Region};
 use model::refusal::Refusal;
 
 // "may read an address in its code or data, write one in its data, fetch one from its code"
+#[tactic(auto, unfolding(model::specs::Map::may))]
 pub fn may(d: Domain, k: Access, a: u64) -> bool
     ensures { result ≡ may d k a }
 {
@@ -29,6 +30,7 @@ pub fn counted(n: u8) -> bool
     (1..=MOST).contains(&usize::from(n))
 }
 
+#[tactic(auto, unfolding(model::specs::Refusals::zero_domain))]
 fn zero_domain(d: Domain) -> bool
     ensures { result ≡ zero_domain d }
 {
@@ -43,6 +45,7 @@ fn zero_past(domains: &[Domain], n: usize) -> bool
 }
 
 // 2: "an unused map entry not all zero"
+#[tactic(auto, using(crate::proofs::Walks::unused_walk))]
 pub fn unused_zero(m: Map) -> bool
     ensures { result ≡ unused_zero m most }
 {
@@ -62,6 +65,7 @@ fn free_of_each(r: Region, domains: &[Domain]) -> bool
 }
 
 // r shares no address with the kernel, nor with one of the first i domains.
+#[tactic(auto, using(crate::proofs::Walks::clear_walk))]
 fn clear(m: Map, r: Region, i: usize) -> bool
     requires { i ≤ most }
     ensures { result ≡ clear m r i }
@@ -70,6 +74,7 @@ fn clear(m: Map, r: Region, i: usize) -> bool
 }
 
 // 4, 5 and 6 for a domain that stands after the first i.
+#[tactic(auto, unfolding(model::specs::Refusals::domain_verdict))]
 pub fn domain_verdict(m: Map, i: usize, d: Domain) -> Verdict
     requires { i ≤ most }
     ensures { result ≡ domain_verdict m i d }

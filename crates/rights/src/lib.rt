@@ -21,6 +21,7 @@ use model::map::{Access, Map};
 use model::refusal::Refusal;
 
 // "count and unused entries, 3, 4 for the kernel, then 4, 5, 6 for each domain in turn"
+#[tactic(auto, unfolding(model::specs::Refusals::map_verdict))]
 fn map_verdict(m: Map) -> Verdict
     ensures { result ≡ map_verdict m }
 {
@@ -32,6 +33,7 @@ fn map_verdict(m: Map) -> Verdict
 }
 
 // Whether a map and its grid are acceptable, or the first refusal among 2 to 7.
+#[tactic(auto, unfolding(model::specs::Refusals::accepts))]
 pub fn acceptable(m: Map, g: [[bool; MOST]; MOST]) -> Verdict
     ensures { result ≡ accepts m g }
 {
@@ -40,6 +42,7 @@ pub fn acceptable(m: Map, g: [[bool; MOST]; MOST]) -> Verdict
 }
 
 // Whether domain d may read, write or fetch address a: yes, no, or a refusal of the map, or 14.
+#[tactic(auto, unfolding(model::specs::Calls::question, model::specs::Calls::named))]
 pub fn question(m: Map, g: [[bool; MOST]; MOST], d: u8, k: Access, a: u64) -> Permission
     ensures { result ≡ question m g d k a }
 {

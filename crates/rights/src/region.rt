@@ -13,6 +13,7 @@ pub fn inside(r: Region, a: u64) -> bool
 }
 
 // The two share an address. "An empty region overlaps nothing."
+#[tactic(auto, unfolding(model::specs::Map::overlaps))]
 pub fn overlaps(r: Region, q: Region) -> bool
     ensures { result ≡ overlaps r q }
 {
