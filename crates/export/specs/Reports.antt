@@ -2,10 +2,11 @@
 -- gives back state, map and grid as they came, with counts 0"; a refused start and a refused reading give the state, the map and the grid
 -- that the calls give.
 -- Assumes nothing.
-use Rattle.std.specs.Prelude.{ℕ, List, Ok, Err}
+use Rattle.std.specs.Prelude.{ℕ, List, Result, Ok, Err}
 use Rattle.model.specs.Refusals.{refusal_number, verdict_number}
 use Rattle.model.specs.Calls.{Left, left}
 use Rattle.model.specs.declared.state.State.{State}
+use Rattle.model.specs.declared.refusal.Refusal.{Refusal}
 use Rattle.model.specs.declared.call.Stop.{Stop}
 use Rattle.model.specs.Answers.{Permission, Reading, Writing, Reply, Close}
 use Rattle.model.specs.declared.call.Started.{Started}
@@ -13,6 +14,7 @@ use Rattle.model.specs.declared.call.Stepped.{Stepped}
 use Rattle.model.specs.declared.call.Played.{Played}
 use Rattle.model.specs.declared.call.Ending.{Ending}
 use Rattle.model.specs.declared.call.Batched.{Batched}
+use Rattle.export.specs.Words.{flag}
 use Rattle.export.specs.StateWords.{packed}
 use Rattle.export.specs.AnswerWords.{answer_words}
 
@@ -29,8 +31,7 @@ writing_report (Err r) = left (refusal_number r) 0
 -- ---- the question and the view
 
 abbrev pub permission_report : ℕ → Permission → Left ℕ ℕ
-permission_report granted (Ok true) = left 0 1
-permission_report granted (Ok false) = left 0 0
+permission_report granted (Ok b) = left 0 (flag b)
 permission_report granted (Err r) = left (refusal_number r) granted
 
 pub record Viewed : Type 0 where
@@ -87,9 +88,8 @@ pub record Spent : Type 0 where
 abbrev pub spent : ℕ → List ℕ → ℕ → Spent
 spent n s k = record { number = n; state = s; steps = k }
 
-abbrev pub ending_report : List ℕ → State → ℕ → Ending → Spent
-ending_report state s n Ending.Spent = spent 0 (packed s) n
-ending_report state s n Ending.Idle = spent 0 (packed s) n
+abbrev pub ending_report : List ℕ → State → ℕ → Result Ending Refusal → Spent
+ending_report state s n (Ok x) = spent 0 (packed s) n
 ending_report state s n (Err r) = spent (refusal_number r) state 0
 
 abbrev pub batched_report : List ℕ → Batched → Spent
