@@ -30,7 +30,6 @@ use crate::report::{
 use crate::state::state_of;
 use lines::number::refusal_number;
 use model::MOST;
-use model::call::Verdict;
 use model::event::Event;
 use model::map::Access;
 
@@ -40,11 +39,9 @@ pub fn arcovinda_read(sheet: &[u8], map: &mut [u32; 44], grid: &mut [u8; 64], at
 {
     let mut g = [[false; MOST]; MOST];
     let found = sheet::read(sheet, &mut g);
-    let m = found.map;
-    let reading = found.reading;
-    *map = map_words(m);
+    *map = map_words(found.map);
     *grid = grid_bytes(g);
-    report_reading(reading, at)
+    report_reading(found.reading, at)
 }
 
 pub fn arcovinda_write(map: &[u32; 44], grid: &[u8; 64], buffer: &mut [u8], wrote: &mut u64) -> u32
@@ -126,20 +123,16 @@ pub fn arcovinda_view(
 {
     let m = map_of(map);
     let g = grid_of(grid);
-    let verdict = machine::view_verdict(m, g, memory, domain);
-    match verdict {
-        Verdict::Refused(r) => {
+    match machine::view_verdict(m, g, memory, domain) {
+        Ok(()) => {
+            *begin = u64::from(m.domains[usize::from(domain) - 1].data.begin);
+            *length = machine::view(m, g, memory, domain).len() as u64;
+            0
+        }
+        Err(r) => {
             *begin = 0;
             *length = 0;
             refusal_number(r)
-        }
-        Verdict::Accepted => {
-            let part = machine::view(m, g, memory, domain);
-            let own = m.domains[(domain as usize) - 1];
-            let data = own.data;
-            *begin = data.begin as u64;
-            *length = part.len() as u64;
-            0
         }
     }
 }
