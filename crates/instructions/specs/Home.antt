@@ -1,6 +1,6 @@
 -- The region that an access of its sort mostly lies in, all of it at once.
 -- Assumes nothing.
-use Rattle.std.specs.Prelude.{◌≡◌, ℕ, zero, suc, ◌+◌, ◌<◌, ◌≤◌, Bool, true, ◌&&◌, nat_le}
+use Rattle.std.specs.Prelude.{◌≡◌, ℕ, zero, suc, ◌+◌, ◌-◌, ◌<◌, ◌≤◌, Bool, true, ◌&&◌, nat_le}
 use Rattle.std.proofs.Math.Path.{refl}
 use Rattle.std.proofs.Math.Option.{none}
 use Rattle.std.proofs.Common.{arith, leb-true}
@@ -16,9 +16,9 @@ home d Access.Read = d.«data»
 home d Access.Write = d.«data»
 home d Access.Fetch = d.code
 
--- n bytes from a are in r
+-- all from a up to past is in r
 abbrev pub covers : Region → ℕ → ℕ → Bool
-covers r a n = nat_le r.begin a && nat_le (a + n) r.end
+covers r a past = nat_le r.begin a && nat_le past r.end
 
 module _ (d : Domain) where
   may_home : (k : Access) (a : ℕ) → (home d k).begin ≤ a → a < (home d k).end → may d k a ≡ true
@@ -32,7 +32,13 @@ module _ (d : Domain) where
   home_all k a zero l h = refl
   home_all k a (suc n) l h = rw (may_home k a l (omega arith)) (home_all k (a + 1) n (omega arith) (omega arith))
 
-  pub home_covers : (k : Access) (a n : ℕ) → covers (home d k) a n ≡ true → lowest (may d k) a n ≡ none
-  home_covers k a n e =
-      home_all k a n (leb-true (home d k).begin a (and_left _ (nat_le (a + n) (home d k).end) e))
-      (leb-true (a + n) (home d k).end (and_right (nat_le (home d k).begin a) _ e))
+  within :
+      (k : Access) (a past n : ℕ) → past - a ≡ n → (home d k).begin ≤ a → past ≤ (home d k).end → lowest (may d k) a n ≡ none
+  unfolding lowest
+  within k a past zero e l h = refl
+  within k a past (suc n) e l h = home_all k a (suc n) l (omega arith)
+
+  pub home_covers : (k : Access) (a past : ℕ) → covers (home d k) a past ≡ true → lowest (may d k) a (past - a) ≡ none
+  home_covers k a past e =
+      within k a past _ refl (leb-true (home d k).begin a (and_left _ (nat_le past (home d k).end) e))
+      (leb-true past (home d k).end (and_right (nat_le (home d k).begin a) _ e))

@@ -1,25 +1,26 @@
 -- "fetch of the kind byte, kind above 19, fetch of the body, registers above 7 in body order, then access or channel": what the plan
 -- of an instruction comes to where each of these fails, and where none does. The code fetches by comparing with the end of the code.
 -- Assumes nothing.
-use Rattle.std.specs.Prelude.{◌≡◌, ℕ, zero, suc, ◌+◌, ◌-◌, ◌<◌, ◌≤◌, Bool, true, false, leb, List, [], ◌∷◌, nat_le, nat_lt, slice_index, refl, if◌then◌else◌}
+use Rattle.std.specs.Prelude.{◌≡◌, ℕ, zero, suc, ◌+◌, ◌-◌, ◌<◌, ◌≤◌, Bool, true, false, leb, List, [], ◌∷◌, Option, None, Some, nat_le, nat_lt, slice_index, refl, if◌then◌else◌}
 use Rattle.std.proofs.Common.{sym, ap, subst, ◌∙◌, arith}
 use Rattle.std.proofs.Math.Option.{some}
 use Rattle.std.proofs.Math.ListN.{get_or-map}
-use borrow.Author.Tests.{ltb-true, ltb-false, le-leb, lt-leb}
+use Rattle.std.specs.List.{find}
+use borrow.Author.Tests.{ltb-true, ltb-false, le-leb, lt-leb, le-ltb, lt-ltb, leb-true, leb-false}
 use Rattle.model.proofs.BasicsLaws.{by_bool}
+use Rattle.model.specs.Basics.{unless}
 use Rattle.model.specs.Map.{inside, may, lowest}
 use Rattle.model.proofs.MapLaws.{inside_from, inside_below}
 use Rattle.model.specs.Table.{Body, size, registers_of, Row, table, row_of, decoded}
 use Rattle.model.specs.States.{with_counter}
-use Rattle.model.specs.Instructions.{Deed, Plan, byte_r, byte_s, work, checked, worked, decode, plan, peek, kept, carry}
+use Rattle.model.specs.Instructions.{Deed, Plan, work, checked, worked, decode, plan, peek, kept, carry}
 use Rattle.model.specs.declared.map.Access.{Access}
 use Rattle.model.specs.declared.map.Domain.{Domain}
 use Rattle.model.specs.declared.state.Reason.{Reason}
 use Rattle.model.specs.declared.state.Context.{Context}
 use Rattle.model.specs.declared.instruction.Decoded.{Decoded}
 use Rattle.instructions.specs.Home.{home_all}
-use Rattle.instructions.specs.Suspect.{first_named, second_named, if_named, first_bad, suspect}
-use Rattle.instructions.specs.Told.{held, seen, Tells, Works}
+use Rattle.instructions.specs.Told.{held, lowest_of, seen, Tells, Works}
 use Rattle.instructions.specs.declared.went.Went.{Went}
 
 -- ---- the fetch: bytes that start in the code, or at its end
@@ -39,25 +40,18 @@ module _ (own : Domain) where
 
 -- ---- registers
 
-one_named :
-    (r : ℕ) (p : Plan) → checked (r ∷ []) p
-    ≡ (if leb (first_bad r 0) 7 then p else Plan.end (Deed.faults (Reason.Register (first_bad r 0))))
-unfolding checked
-one_named r p = by_bool (nat_le r 7) (λ e. rw e) (λ e. rw (e, e))
+-- the first of them above 7
+abbrev pub above : List ℕ → Option ℕ
+above rs = find (λ r. nat_lt 7 r) rs
 
-checked_suspect :
-    (f : Body) (b : List ℕ) (p : Plan)
-    → checked (registers_of f b) p
-    ≡ (if leb (suspect f b) 7 then p else Plan.end (Deed.faults (Reason.Register (suspect f b))))
+checked_above :
+    (rs : List ℕ) (p : Plan) → checked rs p ≡ unless (lowest_of (above rs)) (λ r. Plan.end (Deed.faults (Reason.Register r))) p
 unfolding checked
-checked_suspect Body.- b p = refl
-checked_suspect Body.r_n b p = one_named (byte_r b) p
-checked_suspect Body.r_s b p = by_bool (nat_le (byte_r b) 7) (λ e. rw e) (λ e. rw (e, e))
-checked_suspect Body.r_s_o b p = by_bool (nat_le (byte_r b) 7) (λ e. rw e) (λ e. rw (e, e))
-checked_suspect Body.a b p = refl
-checked_suspect Body.r_a b p = one_named (byte_r b) p
-checked_suspect Body.r b p = one_named (byte_r b) p
-checked_suspect Body.d_r b p = refl
+checked_above [] p = refl
+checked_above (r ∷ rs) p =
+    by_bool (nat_le r 7)
+    (λ e. let no : nat_lt 7 r ≡ false = le-ltb 7 r (leb-true r 7 e) in rw (e, no) (checked_above rs p))
+    (λ e. let yes : nat_lt 7 r ≡ true = lt-ltb 7 r (leb-false r 7 e) in rw (e, yes))
 
 -- ---- five bytes are as good as the body's own
 
@@ -104,8 +98,7 @@ module _ (own : Domain) (count : ℕ) (row : List Bool) (memory : List ℕ) (c :
                 (omega (arith, inside_below own.code c.counter i)) (omega (arith, inside_below own.code c.counter i)),
           )
 
-      module _ (p : size (row_of kind).form < own.code.end - c.counter) (r : ℕ)
-          (f : r ≡ suspect (row_of kind).form (peek memory (c.counter + 1) 5)) where
+      module _ (p : size (row_of kind).form < own.code.end - c.counter) where
         abbrev on : Context
         on = with_counter c (c.counter + 1 + size (row_of kind).form)
 
@@ -122,15 +115,19 @@ module _ (own : Domain) (count : ℕ) (row : List Bool) (memory : List ℕ) (c :
             )
             (ap (λ t. carry (held own count row) memory (t memory (c.counter + 1) c on)) (body_five kind))
 
-        at_register : 7 < r → carry (held own count row) memory (plan c) ≡ kept memory (Deed.faults (Reason.Register r))
+        abbrev found : Option ℕ
+        found = above (registers_of (row_of kind).form (peek memory (c.counter + 1) 5))
+
+        at_register :
+            (r : ℕ) → Some r ≡ found → carry (held own count row) memory (plan c) ≡ kept memory (Deed.faults (Reason.Register r))
         unfolding carry
-        at_register q = body ∙ rw (checked_suspect, ← f, lt-leb r 7 q)
+        at_register r f = body ∙ rw (checked_above, ← f)
 
         at_works :
-            r ≤ 7
+            None ≡ found
             → carry (held own count row) memory (plan c)
             ≡ carry (held own count row) memory (work (row_of kind).effect (peek memory (c.counter + 1) 5) c on)
-        at_works q = body ∙ rw (checked_suspect, ← f, le-leb r 7 q)
+        at_works f = body ∙ rw (checked_above, ← f)
 
 -- ---- as `one` tells them
 
@@ -155,28 +152,30 @@ module _ (c : Fetched) where
   abbrev pub One : Went → List ℕ → List ℕ → Type 0
   One = Tells (held c.own c.count c.row) plan c.registers c.counter c.memory
 
-  abbrev form : Body
-  form = (row_of c.kind).form
+  abbrev decodes : Option Decoded
+  decodes = if nat_le c.kind 19 then Some (decoded c.kind) else None
 
-  abbrev bytes : List ℕ
-  bytes = peek c.memory (c.counter + 1) 5
+  above_19 : None ≡ decodes → 19 < c.kind
+  above_19 e = by_bool (nat_le c.kind 19) (λ t. let n = rw t at e in cc) (λ t. leb-false c.kind 19 t)
 
-  -- the bytes that name registers are tested one after the other
-  module _ {r : ℕ} (e : r ≡ if_named (first_named form) (byte_r bytes)) where
-    pub suspect_first : 7 < r → r ≡ suspect form bytes
-    suspect_first q = rw (← e, lt-leb r 7 q)
+  up_to_19 : {d : Decoded} → Some d ≡ decodes → (c.kind ≤ 19) × (d ≡ decoded c.kind)
+  up_to_19 e =
+      by_bool (nat_le c.kind 19) (λ t. let n = rw t at e in (leb-true c.kind 19 t, cc)) (λ t. let n = rw t at e in cc)
 
-    pub suspect_second : {s : ℕ} → s ≡ if_named (second_named form) (byte_s bytes) → r ≤ 7 → s ≡ suspect form bytes
-    suspect_second h q = rw (← e, le-leb r 7 q) h
-
-  pub one_kind : 19 < c.kind → One (Went.Faults (Reason.Kind c.kind)) c.registers c.memory
+  pub one_kind : None ≡ decodes → One (Went.Faults (Reason.Kind c.kind)) c.registers c.memory
   one_kind h = (
     λ x b.
-        at_kind c.own c.count c.row c.memory (seen c.registers c.counter x b) c.kind c.read c.there h,
+        at_kind c.own c.count c.row c.memory (seen c.registers c.counter x b) c.kind c.read c.there (above_19 h),
     refl,
   )
 
-  module _ (h : c.kind ≤ 19) (d : Decoded) (e : d ≡ decoded c.kind) where
+  module _ {d : Decoded} (q : Some d ≡ decodes) where
+    h : c.kind ≤ 19
+    h = (up_to_19 q).0
+
+    e : d ≡ decoded c.kind
+    e = (up_to_19 q).1
+
     pub one_body :
         c.own.code.end - c.counter ≤ d.length → One (Went.Faults (Reason.Fetch c.own.code.end)) c.registers c.memory
     one_body p = (
@@ -186,28 +185,30 @@ module _ (c : Fetched) where
       refl,
     )
 
-    module _ (p : d.length < c.own.code.end - c.counter) (r : ℕ) (f : r ≡ suspect form bytes) where
-      pub one_register : 7 < r → One (Went.Faults (Reason.Register r)) c.registers c.memory
-      one_register q = (
-        λ x b.
-            at_register c.own c.count c.row c.memory (seen c.registers c.counter x b) c.kind c.read c.there h
-            (rw e at p) r f q,
+    -- b is the body
+    module _ (p : d.length < c.own.code.end - c.counter) {b : List ℕ} (f : b ≡ peek c.memory (c.counter + 1) 5) where
+      abbrev found_in : Option ℕ
+      found_in = above (registers_of (row_of c.kind).form b)
+
+      pub one_register : {r : ℕ} → Some r ≡ found_in → One (Went.Faults (Reason.Register r)) c.registers c.memory
+      one_register {r} t = (
+        λ x m.
+            at_register c.own c.count c.row c.memory (seen c.registers c.counter x m) c.kind c.read c.there h
+            (rw e at p) r (rw f at t),
         refl,
       )
 
       pub one_works :
-          (x : Went) (rs' memory' : List ℕ) → r ≤ 7
-          → Works d.effect c.own c.count c.row (c.counter + 1) (c.counter + 1 + d.length) c.registers c.memory
-          x rs' memory'
+          (x : Went) (rs' memory' : List ℕ) → None ≡ found_in
+          → Works d.effect c.own c.count c.row b (c.counter + 1 + d.length) c.registers c.memory x rs' memory'
           → One x rs' memory'
-      one_works x rs' memory' q v =
+      one_works x rs' memory' t v =
           let w =
           subst
-          (λ k. Works k.effect c.own c.count c.row (c.counter + 1) (c.counter + 1 + k.length) c.registers c.memory
-          x rs' memory') e v in (
-            λ y b.
-                at_works c.own c.count c.row c.memory (seen c.registers c.counter y b) c.kind c.read c.there h
-                (rw e at p) r f q
-                ∙ (w c.counter).0 y b,
+          (λ k. Works k.effect c.own c.count c.row b (c.counter + 1 + k.length) c.registers c.memory x rs' memory') e v in (
+            λ y m.
+                at_works c.own c.count c.row c.memory (seen c.registers c.counter y m) c.kind c.read c.there h
+                (rw e at p) (rw f at t)
+                ∙ rw f at ((w c.counter).0 y m),
             (w c.counter).1,
           )
