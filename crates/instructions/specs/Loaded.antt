@@ -10,9 +10,9 @@ use Rattle.model.specs.declared.map.Domain.{Domain}
 use Rattle.model.specs.declared.state.Reason.{Reason}
 
 -- the n bytes from a, or the lowest of them that is denied
-abbrev pub loaded : Domain → ℕ → ℕ → List ℕ → Result (List ℕ) Reason
-loaded own a n memory = unless (lowest (may own Access.Read) a n) (λ x. Err (Reason.Read x)) (Ok (peek memory a n))
+abbrev pub load : Domain → ℕ → ℕ → List ℕ → Result (List ℕ) Reason
+load own a n memory = unless (lowest (may own Access.Read) a n) (λ x. Err (Reason.Read x)) (Ok (peek memory a n))
 
-abbrev pub stored : Domain → ℕ → List ℕ → List ℕ → Result ⊤ Reason × List ℕ
-stored own a bs memory =
+abbrev pub store : Domain → ℕ → List ℕ → List ℕ → Result ⊤ Reason × List ℕ
+store own a bs memory =
     unless (lowest (may own Access.Write) a (length bs)) (λ x. (Err (Reason.Write x), memory)) (Ok tt, sets memory a bs)

@@ -3,7 +3,7 @@ ghost use Rattle.std.specs.Prelude.{◌≡◌, ◌+◌, ◌-◌, ◌^◌, ◌<�
 ghost use Rattle.model.specs.Map.{may, lowest};
 ghost use Rattle.instructions.specs.Home.{home, covers};
 ghost use Rattle.instructions.specs.Told.{lowest_of};
-ghost use Rattle.instructions.specs.Loaded.{loaded, stored};
+ghost use Rattle.instructions.specs.Loaded.{load, store};
 
 use crate::byte::{peek, put};
 use model::map::{Access, Domain, Region};
@@ -12,7 +12,7 @@ use rights::domain::may;
 use std::ops::Range;
 
 // "An address is register plus offset as a whole number, never reduced; it may exceed 32 bits and is reported in full."
-#[derive(Clone, Copy, PartialEq, Eq, Debug)]
+#[derive(Clone, Copy)]
 pub struct Address {
     pub at: u64,
     ghost whole: { at < 2 ^ 33 },
@@ -56,7 +56,7 @@ fn denied(own: Domain, k: Access, a: u64, past: u64) -> Option<u64>
 
 pub fn load<const N: usize>(own: Domain, a: Address, memory: &[u8]) -> Result<[u8; N], Reason>
     requires { N ≤ 4 }
-    ensures { result ≡ loaded own a.at N memory.now }
+    ensures { result ≡ load own a.at N memory.now }
 {
     match denied(own, Access::Read, a.at, a.at + N as u64) {
         Some(x) => Err(Reason::Read(x)),
@@ -66,7 +66,7 @@ pub fn load<const N: usize>(own: Domain, a: Address, memory: &[u8]) -> Result<[u
 
 pub fn store(own: Domain, a: Address, bytes: &[u8], memory: &mut [u8]) -> Result<(), Reason>
     requires { length bytes.now ≤ 4 }
-    ensures { (result, memory.new) ≡ stored own a.at bytes.now memory.old }
+    ensures { (result, memory.new) ≡ store own a.at bytes.now memory.old }
 {
     match denied(own, Access::Write, a.at, a.at + bytes.len() as u64) {
         Some(x) => Err(Reason::Write(x)),

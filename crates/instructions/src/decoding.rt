@@ -1,11 +1,12 @@
 // "One kind byte, then the body": the body's length and the effect, and the registers that it names.
+#![tactic(auto, unfolding(model::specs::Table::row_of, model::specs::Table::table))]
+
 ghost use Rattle.std.specs.Prelude.{◌≡◌, nat_le, nat_lt, None, Some, if◌then◌else◌};
 ghost use Rattle.std.specs.List.{find};
 ghost use Rattle.model.specs.Table.{size, registers_of, row_of, decoded};
 
 use model::instruction::{Decoded, Effect};
 
-#[tactic(auto, unfolding(model::specs::Table::row_of, model::specs::Table::table))]
 fn length_of(kind: u8) -> u32
     ensures { result ≡ size (row_of kind).form }
 {
@@ -21,7 +22,6 @@ fn length_of(kind: u8) -> u32
     }
 }
 
-#[tactic(auto, unfolding(model::specs::Table::row_of, model::specs::Table::table))]
 fn effect_of(kind: u8) -> Option<Effect>
     ensures { result ≡ (if nat_le kind 19 then Some (row_of kind).effect else None) }
 {
@@ -60,7 +60,6 @@ pub fn decode(kind: u8) -> Option<Decoded>
 }
 
 // The register bytes of a body, "in body order".
-#[tactic(auto, unfolding(model::specs::Table::row_of, model::specs::Table::table))]
 fn registers_of(kind: u8, body: &[u8; 5]) -> &[u8]
     ensures { result.now ≡ registers_of (row_of kind).form body.now }
 {

@@ -42,6 +42,7 @@ impl Held {
 
     // "fetch of the kind byte", then the rest for each kind by itself: its tests and its effect are compiled for that kind alone, after
     // one jump. The accesses share theirs with what is no kind.
+    #[tactic(auto, unfolding(model::specs::Instructions::plan, model::specs::Instructions::carry, model::specs::Map::lowest, model::specs::Map::may))]
     fn one(&self, counter: u32, registers: &mut [u32; 8], memory: &mut [u8]) -> Result<Went, Reason>
         ensures { Tells (held self.now.own self.now.count.n self.now.row) plan
             registers.old counter memory.old (went result) registers.new memory.new }
