@@ -24,7 +24,11 @@ pub fn play_on(start: Node, memory: &mut [u8], trace: &[u8]) -> Played
     ensures { left result memory.new
         ≡ plays start.map start.grid trace.now 0 0 start.state memory.old }
 {
-    let mut node = start;
+    let Node {
+        map,
+        grid,
+        mut state,
+    } = start;
     let mut at = 0;
     let mut events = 0;
     // a record takes as many bytes as its kind says: no index is counted, and no iterator of the library goes so
@@ -34,17 +38,17 @@ pub fn play_on(start: Node, memory: &mut [u8], trace: &[u8]) -> Played
             return Played {
                 close: broken(read, at),
                 events,
-                state: node.state,
+                state,
             };
         };
-        let state = happen(node, memory, e).state;
-        node = Node { state, ..node };
+        let node = Node { map, grid, state };
+        state = happen(node, memory, e).state;
         at += n;
         events += 1;
     }
     Played {
         close: Ok(()),
         events,
-        state: node.state,
+        state,
     }
 }
