@@ -3,13 +3,13 @@
 --     onto_room, onto_past      a word where there is room, as far as it goes, and where there is none
 --     told_shown       what is printed, put onto a page with nothing on it
 -- Assumes nothing.
-use Rattle.std.specs.Prelude.{ℕ, ◌+◌, ◌-◌, ◌≤◌, ◌<◌, min, ◌≡◌, List, ◌++◌, length, take, drop}
+use Rattle.std.specs.Prelude.{ℕ, ◌+◌, ◌-◌, ◌≤◌, min, ◌≡◌, List, ◌++◌, length, take, drop}
 use Rattle.std.proofs.Common.{sym, ap, ◌∙◌, arith, length-take-le, length-drop, take-append-drop}
 use Rattle.std.proofs.lemmas.List.{take_min, drop_min}
 use borrow.Rule.Slice.PartMut.{put_mid}
 use Rattle.model.specs.Calls.{left}
 use Rattle.model.specs.Program.{Printed, shown}
-use Rattle.lines.specs.Puts.{Place, puts}
+use Rattle.lines.specs.Puts.{puts}
 use Rattle.lines.specs.PutsLaws.{puts_append, puts_after, puts_past, puts_laid}
 use Rattle.lines.specs.declared.text.Page.{Page}
 use Rattle.lines.specs.Pages.{place, moved, onto, told_onto}
