@@ -2,31 +2,29 @@
 --     tells_start, tells_end, tells_broken, tells_whole
 -- Assumes nothing.
 use Rattle.std.specs.Prelude.{ℕ, ◌+◌, ◌≤◌, ◌<◌, ◌≡◌, List, ◌++◌, length, drop, Ok, Err}
-use Rattle.std.proofs.Math.Path.{sym, ap}
+use Rattle.std.proofs.Math.Path.{refl, sym, ap}
 use Rattle.std.proofs.Common.{◌∙◌, append_assoc}
 use Rattle.model.specs.Map.{Grid}
 use Rattle.model.specs.States.{start}
 use Rattle.model.specs.Events.{Trace, event, run, event_read, trace_of}
 use Rattle.model.proofs.TraceLaws.{rest_end, rest_broken, rest_whole}
 use Rattle.model.specs.Calls.{Left, left}
-use Rattle.model.specs.Program.{event_line, event_lines, active_line, refusal_at_line, close_line, of_run, of_trace, shown}
+use Rattle.model.specs.Program.{event_line, event_lines, active_line, refusal_at_line, close_line, of_run, of_trace}
 use Rattle.model.specs.declared.map.Map.{Map}
 use Rattle.model.specs.declared.state.State.{State}
 use Rattle.model.specs.declared.event.Event.{Event}
 use Rattle.model.specs.declared.refusal.Refusal.{Refusal}
 use Rattle.lines.specs.Puts.{Place, puts}
-use Rattle.lines.specs.PutsLaws.{puts_append, puts_laid}
+use Rattle.lines.specs.PutsLaws.{puts_append}
 use Rattle.lines.specs.Telling.{told, tells}
 
 module _ (m : Map) (g : Grid) (bytes : List ℕ) where
   abbrev over : Trace → ℕ → Place → State → List ℕ → Left Place (List ℕ)
   over t n x s memory = told (of_run n t (run m g s memory t.events)) x
 
-  pub tells_start :
-      (memory buffer : List ℕ) → tells m g bytes 0 0 (left 0 buffer) (start m) memory ≡ shown (of_trace m g memory bytes) buffer
+  pub tells_start : (x : Place) (memory : List ℕ) → tells m g bytes 0 0 x (start m) memory ≡ told (of_trace m g memory bytes) x
   unfolding tells of_trace
-  tells_start memory buffer =
-      let p = of_trace m g memory bytes in ap (λ x. left x p.memory) (puts_laid buffer p.text)
+  tells_start x memory = refl
 
   module _ (at n : ℕ) (x : Place) (s : State) (memory : List ℕ) where
     pub tells_end :
