@@ -17,7 +17,7 @@ module _ (allowed : ℕ → Bool) where
   none_denied a (suc n) h =
       rw (h a (omega arith) (omega arith)) (none_denied (a + 1) n (λ k l m. h k (omega arith) (omega arith)))
 
-  first_denied : (a n i : ℕ) → a ≤ i → i < a + n → allowed i ≡ false → Allowed a i → lowest allowed a n ≡ some i
+  pub first_denied : (a n i : ℕ) → a ≤ i → i < a + n → allowed i ≡ false → Allowed a i → lowest allowed a n ≡ some i
   unfolding lowest
   first_denied a zero i l m e h = absurd (omega arith)
   first_denied a (suc n) i l m e h =

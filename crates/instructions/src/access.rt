@@ -9,7 +9,6 @@ use crate::byte::{peek, put};
 use model::map::{Access, Domain, Region};
 use model::state::Reason;
 use rights::domain::may;
-use std::ops::Range;
 
 // "An address is register plus offset as a whole number, never reduced; it may exceed 32 bits and is reported in full."
 #[derive(Clone, Copy)]
@@ -54,25 +53,25 @@ fn denied(own: Domain, k: Access, a: u64, past: u64) -> Option<u64>
     (a..past).find(|&x| !may(own, k, x))
 }
 
+// The N bytes from a on.
 pub fn load<const N: usize>(own: Domain, a: Address, memory: &[u8]) -> Result<[u8; N], Reason>
     requires { N ≤ 4 }
     ensures { result ≡ load own a.at N memory.now }
 {
-    match denied(own, Access::Read, a.at, a.at + N as u64) {
-        Some(x) => Err(Reason::Read(x)),
-        None => Ok(peek(memory, a.at as usize)),
+    if let Some(x) = denied(own, Access::Read, a.at, a.at + N as u64) {
+        return Err(Reason::Read(x));
     }
+    Ok(peek(memory, a.at as usize))
 }
 
+// The bytes from a on become these, or none does.
 pub fn store(own: Domain, a: Address, bytes: &[u8], memory: &mut [u8]) -> Result<(), Reason>
     requires { length bytes.now ≤ 4 }
     ensures { (result, memory.new) ≡ store own a.at bytes.now memory.old }
 {
-    match denied(own, Access::Write, a.at, a.at + bytes.len() as u64) {
-        Some(x) => Err(Reason::Write(x)),
-        None => {
-            put(memory, a.at as usize, bytes);
-            Ok(())
-        }
+    if let Some(x) = denied(own, Access::Write, a.at, a.at + bytes.len() as u64) {
+        return Err(Reason::Write(x));
     }
+    put(memory, a.at as usize, bytes);
+    Ok(())
 }

@@ -22,9 +22,10 @@ use model::map::Map;
 use model::state::State;
 use rights::acceptable;
 use states::event::Happened;
-use stepping::run::run;
+use stepping::node::Node;
 
 // The node at its start, or why not: then no domain is active, and every context is zero and halted.
+#[tactic(auto, unfolding(model::specs::Calls::starter))]
 pub fn start(m: Map, g: [[bool; MOST]; MOST]) -> Started
     ensures { result ≡ starter m g }
 {
@@ -37,6 +38,7 @@ pub fn start(m: Map, g: [[bool; MOST]; MOST]) -> Started
 }
 
 // One event: its answer and the state after it, or a refusal with the state as it came and no byte set.
+#[tactic(auto, unfolding(model::specs::Calls::stepper))]
 pub fn event(m: Map, g: [[bool; MOST]; MOST], s: State, memory: &mut [u8], e: Event) -> Stepped
     ensures { left result memory.new ≡ stepper m g s memory.old e }
 {
@@ -46,7 +48,12 @@ pub fn event(m: Map, g: [[bool; MOST]; MOST], s: State, memory: &mut [u8], e: Ev
             state: s,
         };
     }
-    let Happened { answer, state } = happen(m, g, s, memory, e);
+    let node = Node {
+        map: m,
+        grid: g,
+        state: s,
+    };
+    let Happened { answer, state } = happen(node, memory, e);
     Stepped {
         reply: Ok(answer),
         state,
@@ -89,6 +96,7 @@ pub fn read_event(bytes: &[u8]) -> EventRead
 }
 
 // The events of a trace, up to its end or its first broken record.
+#[tactic(auto, unfolding(model::specs::Calls::player))]
 pub fn play(m: Map, g: [[bool; MOST]; MOST], s: State, memory: &mut [u8], trace: &[u8]) -> Played
     ensures { left result memory.new ≡ player m g s memory.old trace.now }
 {
@@ -99,10 +107,16 @@ pub fn play(m: Map, g: [[bool; MOST]; MOST], s: State, memory: &mut [u8], trace:
             state: s,
         };
     }
-    play_on(m, g, s, memory, trace)
+    let node = Node {
+        map: m,
+        grid: g,
+        state: s,
+    };
+    play_on(node, memory, trace)
 }
 
 // As many steps as the limit, or fewer if the node becomes idle; how many were done is returned.
+#[tactic(auto, unfolding(model::specs::Calls::batcher))]
 pub fn batch(m: Map, g: [[bool; MOST]; MOST], s: State, memory: &mut [u8], limit: u64) -> Batched
     ensures { left result memory.new ≡ batcher m g s memory.old limit }
 {
@@ -113,7 +127,12 @@ pub fn batch(m: Map, g: [[bool; MOST]; MOST], s: State, memory: &mut [u8], limit
             state: s,
         };
     }
-    let done = run(m, g, s, memory, limit);
+    let node = Node {
+        map: m,
+        grid: g,
+        state: s,
+    };
+    let done = node.run(memory, limit);
     // ""spent" if that equals the limit, else "idle"": nothing is left of the limit
     let ending = if done.left == 0 {
         Ending::Spent
@@ -135,6 +154,7 @@ pub fn view_verdict(m: Map, g: [[bool; MOST]; MOST], memory: &[u8], d: u8) -> Ve
 }
 
 // The data sub-region of domain d as that part of the lent memory, and the empty part at its front where the companion call refuses.
+#[tactic(auto, unfolding(model::specs::Calls::view))]
 pub fn view(m: Map, g: [[bool; MOST]; MOST], memory: &[u8], d: u8) -> &[u8]
     ensures { result.now ≡ view m g memory.now d }
 {

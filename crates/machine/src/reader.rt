@@ -17,6 +17,7 @@ fn word_event(bytes: &[u8]) -> EventRead
 }
 
 // The event at the front of the bytes and how many it takes, or 11 or 12.
+#[tactic(auto, unfolding(model::specs::Events::event_read))]
 pub fn event_at_front(bytes: &[u8]) -> EventRead
     ensures { result ≡ event_read bytes.now }
 {

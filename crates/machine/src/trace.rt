@@ -1,17 +1,14 @@
 // "Playing a trace stops at its first broken record with 11 or 12, its offset and the events done, which stand."
 ghost use Rattle.std.specs.Prelude.{◌≡◌};
-ghost use Rattle.model.specs.SoundLaws.{Sound};
 ghost use Rattle.model.specs.Calls.{left};
 ghost use Rattle.machine.specs.Playing.{closed, plays};
 
 use crate::happen::happen;
 use crate::reader::event_at_front;
-use model::MOST;
 use model::call::{Played, Stop};
 use model::event::EventRead;
-use model::map::Map;
 use model::refusal::RefusedAt;
-use model::state::State;
+use stepping::node::Node;
 
 // 11 or 12, and the offset.
 fn broken(read: EventRead, at: usize) -> Result<(), Stop>
@@ -23,11 +20,15 @@ fn broken(read: EventRead, at: usize) -> Result<(), Stop>
     }
 }
 
-pub fn play_on(m: Map, g: [[bool; MOST]; MOST], s: State, memory: &mut [u8], trace: &[u8]) -> Played
-    requires { Sound m.count s }
-    ensures { left result memory.new ≡ plays m g trace.now 0 0 s memory.old }
+pub fn play_on(start: Node, memory: &mut [u8], trace: &[u8]) -> Played
+    ensures { left result memory.new
+        ≡ plays start.map start.grid trace.now 0 0 start.state memory.old }
 {
-    let mut state = s;
+    let Node {
+        map,
+        grid,
+        mut state,
+    } = start;
     let mut at = 0;
     let mut events = 0;
     // a record takes as many bytes as its kind says: no index is counted, and no iterator of the library goes so
@@ -40,7 +41,8 @@ pub fn play_on(m: Map, g: [[bool; MOST]; MOST], s: State, memory: &mut [u8], tra
                 state,
             };
         };
-        state = happen(m, g, state, memory, e).state;
+        let node = Node { map, grid, state };
+        state = happen(node, memory, e).state;
         at += n;
         events += 1;
     }

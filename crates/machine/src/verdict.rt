@@ -9,6 +9,7 @@ use model::refusal::Refusal;
 use model::state::State;
 use rights::acceptable;
 use rights::channel::is_domain;
+use rights::count::Count;
 use rights::verdict::check;
 use states::good::well_formed;
 
@@ -20,15 +21,17 @@ fn as_long(m: Map, memory: &[u8]) -> Verdict
 }
 
 // 13: "state not well formed"
+#[tactic(auto, unfolding(model::specs::Calls::node_verdict))]
 pub fn node_verdict(m: Map, g: [[bool; MOST]; MOST], s: State, memory: &[u8]) -> Verdict
     ensures { result ≡ node_verdict m g s memory.now }
 {
     acceptable(m, g)?;
     as_long(m, memory)?;
-    check(well_formed(m.count, s), Refusal::Malformed)
+    check(well_formed(Count { n: m.count }, s), Refusal::Malformed)
 }
 
 // 14: "domain not 1 to N"
+#[tactic(auto, unfolding(model::specs::Calls::lent_verdict))]
 pub fn lent_verdict(m: Map, g: [[bool; MOST]; MOST], memory: &[u8], d: u8) -> Verdict
     ensures { result ≡ lent_verdict m g memory.now d }
 {

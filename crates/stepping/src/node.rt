@@ -6,12 +6,13 @@ ghost use Rattle.model.specs.declared.event.Answer.{Answer};
 ghost use Rattle.instructions.specs.Steps.{going, steps};
 
 use crate::turn::{settle, taken};
-use instructions::stretch::stretch;
+use instructions::held::Held;
 use instructions::went::Went;
 use model::MOST;
 use model::event::Answer;
 use model::map::Map;
 use model::state::{Context, State, Status};
+use rights::count::Count;
 use states::receive::received;
 use states::switch::after;
 
@@ -40,6 +41,7 @@ impl Node {
             ≡ steps self.map self.grid self.state memory.old Answer.Idle limit }
     {
         let m = self.map;
+        let count = Count { n: m.count };
         let mut t = self.state;
         let mut left = limit;
         let mut answer = Answer::Idle;
@@ -61,10 +63,13 @@ impl Node {
                     state: t,
                 };
             }
-            let own = m.domains[place];
-            let row = self.grid[place];
+            let held = Held {
+                own: m.domains[place],
+                count,
+                row: self.grid[place],
+            };
             let mut registers = c.registers;
-            let ran = stretch(own, m.count, row, c.counter, &mut registers, memory, left);
+            let ran = held.stretch(c.counter, &mut registers, memory, left);
             left = ran.left;
             let went = ran.went;
             let Went::Sends(to, word, next) = went else {

@@ -5,12 +5,8 @@ use Rattle.machine.proofs.Shape.{eight}
 use Rattle.machine.proofs.Calls.{tested, batch_left, batch_done}
 use Rattle.machine.proofs.batch.Goals as goal
 
-pub returns-in-Err : goal.returns-in-Err
-unfolding batcher
-returns-in-Err c = search rules
-
-pub run-done-requires : goal.run-done-requires
-run-done-requires c = tested _ _ _ _ c.node_verdict.ensures c.in_default.is (eight c.args.s _ c.well_formed.1.1.0)
+pub invariant_of-node : goal.invariant_of-node
+invariant_of-node c = record { sound = tested _ _ _ _ c.node_verdict.ensures c.in_default.is (eight c.args.s _ c.well_formed.1.1.0) }
 
 pub overflow_sub-result : goal.overflow_sub-result
 overflow_sub-result c = batch_left _ _ _ _ c.node_verdict.ensures c.in_default.is c.args.limit c.run-done.ensures

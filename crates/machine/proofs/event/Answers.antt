@@ -5,12 +5,8 @@ use Rattle.machine.proofs.Shape.{eight}
 use Rattle.machine.proofs.Calls.{tested, event_done}
 use Rattle.machine.proofs.event.Goals as goal
 
-pub returns-in-Err : goal.returns-in-Err
-unfolding stepper
-returns-in-Err c = search rules
-
-pub happen-answer-requires : goal.happen-answer-requires
-happen-answer-requires c = tested _ _ _ _ c.node_verdict.ensures c.in_default.is (eight c.args.s _ c.well_formed.1.1.0)
+pub invariant_of-node : goal.invariant_of-node
+invariant_of-node c = record { sound = tested _ _ _ _ c.node_verdict.ensures c.in_default.is (eight c.args.s _ c.well_formed.1.1.0) }
 
 pub returns : goal.returns
 returns c = event_done _ _ _ _ c.node_verdict.ensures c.in_default.is c.args.e c.happen-answer.ensures

@@ -13,10 +13,6 @@ bounds-m-from c = rw c.from.ensures (view_bounds _ _ _ _ c.lent_verdict.ensures 
 pub slice_bounds-result-count : goal.slice_bounds-result-count
 slice_bounds-result-count c = rw c.from.ensures (view_bounds _ _ _ _ c.lent_verdict.ensures c.in-Ok.is).2
 
-pub returns-in-Err : goal.returns-in-Err
-unfolding view
-returns-in-Err c = search rules
-
 pub returns-in-Ok : goal.returns-in-Ok
 returns-in-Ok c = rw c.from.ensures (view_part _ _ _ _ c.lent_verdict.ensures c.in-Ok.is)
 

@@ -1,5 +1,5 @@
 -- `instructions::held::Held::stretch` meets its contract: the loop's invariant holds at the start and after each turn, and each way out follows from it.
-use Rattle.std.proofs.Common.{◌≡◌, refl, ℕ, List, Result, Ok, Err, MatchResult, arith, rules}
+use Rattle.std.proofs.Common.{◌≡◌, refl, ℕ, List, Result, Ok, Err, MatchResult, arith}
 use Rattle.instructions.specs.Told.{went, Keeps}
 use Rattle.instructions.specs.StepsLaws.{reaches_start, reaches_more, reaches_stops, reaches_spent}
 use Rattle.instructions.specs.declared.went.Went.{Went}
