@@ -111,7 +111,6 @@ pub fn arcovinda_may_fetch(
     may(map, grid, domain, Access::Fetch, address, granted)
 }
 
-#[tactic(auto, using(crate::specs::ExportsLaws::view_refused))]
 pub fn arcovinda_view(
     map: &[u32; 44],
     grid: &[u8; 64],
