@@ -4,7 +4,6 @@
 --     Told         how an instruction went: what it means for its context
 --     Home         the region that an access mostly lies in
 --     Loaded       what a load and a store give; AccessLaws
---     WorkLaws     each effect
 --     Steps        steps one after the other, and a stretch of one domain among them; StepsLaws
 --     OneLaws      each exit of one instruction
 pub mod Suspect

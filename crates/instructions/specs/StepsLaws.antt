@@ -23,8 +23,8 @@ use Rattle.model.specs.declared.state.Status.{Status}
 use Rattle.model.specs.declared.state.Context.{Context}
 use Rattle.model.specs.declared.state.State.{State}
 use Rattle.model.specs.declared.event.Answer.{Answer}
-use Rattle.instructions.specs.Told.{held, seen, loaded, deed, Tells}
-use Rattle.instructions.specs.Steps.{steps, onward, come, Stands, Granted, Stretches}
+use Rattle.instructions.specs.Told.{held, seen, loaded, deed, Keeps, Tells}
+use Rattle.instructions.specs.Steps.{Going, steps, onward, come, Stands, Granted, Stretches}
 use Rattle.instructions.specs.declared.went.Went.{Went}
 
 abbrev with_contexts : State → List Context → State
@@ -86,6 +86,22 @@ module _ (part : Domain) (count : ℕ) (row : List Bool) (rs₀ : List ℕ) (n�
   told_granted Went.Halts rs n memory rs' memory' t = tt
   told_granted (Went.Faults x) rs n memory rs' memory' t = tt
 
+  -- the registers that the domain is left with are those that it came with, or the instruction sets them all
+  module _ (m : Map) (g : Grid) (s : State) (rs : List ℕ) (n : ℕ) (rs' memory' : List ℕ) (left : ℕ) where
+    abbrev after : List ℕ → Went → Going
+    after r x = onward m g (acts m.count (come s r n) (kept memory' (deed (loaded (own s) r n) rs' x))) left
+
+    stopped : (x : Went) → Keeps x rs rs' → after rs x ≡ after rs' x
+    unfolding perform
+    stopped (Went.Moved k) t =
+        let set = λ (cs : List Context). steps m g (with_contexts s cs) memory' (Answer.Ran s.active) left in
+        ap set (set-set s.contexts (s.active - 1) _ _) ∙ sym (ap set (set-set s.contexts (s.active - 1) _ _))
+    stopped (Went.Sends t w k) e = ap (λ r. after r (Went.Sends t w k)) (sym e)
+    stopped (Went.Receives r x k) e = ap (λ l. after l (Went.Receives r x k)) (sym e)
+    stopped (Went.Yields k) e = ap (λ r. after r (Went.Yields k)) (sym e)
+    stopped Went.Halts e = ap (λ r. after r Went.Halts) (sym e)
+    stopped (Went.Faults x) e = ap (λ r. after r (Went.Faults x)) (sym e)
+
   -- the steps from where the stretch began are those from where it has come to, with `left` left of the limit
   abbrev pub Reaches : List ℕ → ℕ → List ℕ → ℕ → List ℕ → ℕ → Type 0
   Reaches memory₀ limit rs n memory left =
@@ -115,14 +131,14 @@ module _ (part : Domain) (count : ℕ) (row : List Bool) (rs₀ : List ℕ) (n�
 
       pub reaches_stops :
           (x : Went) (rs' memory' : List ℕ) → 0 < left → left ≤ limit → Tells (held part count row) plan rs n memory x rs' memory'
-          → rs' ≡ rs → Stretches part count row rs₀ n₀ memory₀ limit (record { left = left - 1; counter = n; went = x }) rs' memory'
-      reaches_stops x rs' memory' l k t e = (
+          → Stretches part count row rs₀ n₀ memory₀ limit (record { left = left - 1; counter = n; went = x }) rs' memory'
+      reaches_stops x rs' memory' l k t = (
         λ m g s h.
             let more : suc (left - 1) ≡ left = omega arith in
             f m g s h
             ∙ ap (steps m g (come s rs n) memory (Answer.Ran s.active)) (sym more)
             ∙ step_told m g s h rs n memory (left - 1) x rs' memory' t
-            ∙ ap (λ r. onward m g (acts m.count (come s r n) (kept memory' (deed (loaded (own s) r n) rs' x))) (left - 1)) (sym e),
+            ∙ stopped m g s rs n rs' memory' (left - 1) x t.1,
         told_granted x rs n memory rs' memory' t,
         λ _. omega arith,
       )

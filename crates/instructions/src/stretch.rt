@@ -86,15 +86,19 @@ impl Held {
     {
         let mut at = counter;
         for left in (0..limit).rev() {
-            let went = self.one(at, registers, memory).unwrap_or_else(Went::Faults);
-            let Went::Moved(next) = went else {
-                return Ran {
+            match self.one(at, registers, memory) {
+                Ok(Went::Moved(next)) => at = next,
+                Ok(went) => return Ran {
                     left,
                     counter: at,
                     went,
-                };
-            };
-            at = next;
+                },
+                Err(reason) => return Ran {
+                    left,
+                    counter: at,
+                    went: Went::Faults(reason),
+                },
+            }
         }
         Ran {
             left: 0,
