@@ -5,7 +5,7 @@ ghost use Rattle.model.specs.States.{after, first_ready, switch};
 use model::state::{State, Status};
 use rights::count::Count;
 
-pub fn after(count: u8, d: u8) -> u8
+fn after(count: u8, d: u8) -> u8
     ensures { result ≡ after count d }
 {
     if d < count { d + 1 } else { 1 }
