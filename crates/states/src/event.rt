@@ -24,7 +24,8 @@ pub fn tick(count: Count, s: State) -> Happened
             state: s,
         };
     }
-    let state = switch(count, s);
+    let mut state = s;
+    switch(count, &mut state);
     Happened {
         answer: Answer::Switched(state.active),
         state,

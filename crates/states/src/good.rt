@@ -28,7 +28,6 @@ fn context_good(count: u8, c: Context) -> bool
 }
 
 // "contexts past N are zero and halted"
-#[tactic(auto, using(crate::proofs::Lists::zeros_equal, crate::proofs::Lists::zeros_default), unfolding(model::specs::States::is_blank, model::specs::States::box_good))]
 fn is_blank(c: Context) -> bool
     ensures { result ≡ is_blank c }
 {

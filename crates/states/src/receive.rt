@@ -5,7 +5,7 @@ ghost use Rattle.model.specs.States.{received, woken};
 use model::state::{Context, Mailbox, Status};
 
 // "A waiting receiver becomes ready, whoever fills its box."
-pub fn woken(x: Status) -> Status
+fn woken(x: Status) -> Status
     ensures { result ≡ woken x }
 {
     if x == Status::Waiting {

@@ -5,15 +5,15 @@ ghost use Rattle.model.specs.States.{after, first_ready, switch};
 use model::state::{State, Status};
 use rights::count::Count;
 
-pub fn after(count: u8, d: u8) -> u8
+fn after(count: u8, d: u8) -> u8
     ensures { result ≡ after count d }
 {
     if d < count { d + 1 } else { 1 }
 }
 
 #[tactic(auto, using(crate::proofs::Lists::first_turn), unfolding(model::specs::States::first_ready))]
-fn first_ready(count: Count, s: State, d: u8) -> u8
-    ensures { result ≡ first_ready count.n s count.n d }
+fn first_ready(count: Count, s: &State, d: u8) -> u8
+    ensures { result ≡ first_ready count.n s.now count.n d }
 {
     let mut at = d;
     for _ in 0..count.n {
@@ -26,11 +26,8 @@ fn first_ready(count: Count, s: State, d: u8) -> u8
 }
 
 #[tactic(auto, unfolding(model::specs::States::switch))]
-pub fn switch(count: Count, s: State) -> State
-    ensures { result ≡ switch count.n s }
+pub fn switch(count: Count, s: &mut State)
+    ensures { s.new ≡ switch count.n s.old }
 {
-    State {
-        active: first_ready(count, s, s.active),
-        ..s
-    }
+    s.active = first_ready(count, s, s.active);
 }
