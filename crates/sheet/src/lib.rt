@@ -6,8 +6,8 @@ mod cursor;
 mod domains;
 mod head;
 mod number;
-mod put;
 mod reader;
+mod record;
 mod writer;
 
 ghost use Rattle.std.specs.Prelude.{◌≡◌};
