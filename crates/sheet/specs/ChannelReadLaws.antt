@@ -1,10 +1,10 @@
 -- Laws of Sheet, in the reader's terms: each answer on a record of kind 4 or 5 is what the definition reads there.
 --     missing, other_kind     no record, and one of another kind
---     whole, trailing       a record of kind 5: with nothing after it, and with more
+--     ended                 a record of kind 5;   nothing_after, trailing: with nothing after it, and with more
 --     body_cut            a record of kind 4 whose body is not there
 --     channel, no_channel   one whose body is there: a channel above the one before, and none
 -- Assumes nothing.
-use Rattle.std.specs.Prelude.{ℕ, ◌+◌, ◌-◌, ◌≤◌, ◌<◌, ◌≡◌, Bool, true, false, eqb, length, get_or, drop, if◌then◌else◌}
+use Rattle.std.specs.Prelude.{ℕ, ◌+◌, ◌-◌, ◌≤◌, ◌<◌, ◌≡◌, Bool, true, false, eqb, length, get_or, drop, if◌then◌else◌, Some, None, Ok, Err}
 use Rattle.std.proofs.Math.Path.{refl, ap}
 use Rattle.std.proofs.Common.{◌∙◌, arith, length-drop, le-leb, ne_eqb}
 use mathlib.Core.List.{List, [], ◌∷◌}
@@ -17,7 +17,6 @@ use Rattle.model.specs.declared.map.Map.{Map}
 use Rattle.model.specs.declared.refusal.Refusal.{Refusal}
 use Rattle.sheet.specs.DropLaws.{drop_end, drop_here, drop_three}
 use Rattle.sheet.specs.Resumed.{ReadsChannel}
-use Rattle.sheet.specs.declared.answer.ChannelRead.{ChannelRead}
 
 -- ---- the definition, by the kind
 
@@ -47,33 +46,28 @@ module _ (s : List ℕ) (at : ℕ) where
   t = get_or s (at + 2) 0
 
   module _ (count p : ℕ) where
-    pub missing : length s ≤ at → ReadsChannel s at count p (ChannelRead.Refused Refusal.Short at)
+    pub missing : length s ≤ at → ReadsChannel s at count p (Err Refusal.Short)
     unfolding channels_read
     missing h = record { reads = λ m g e. rw (drop_end s at h); fits = tt }
 
     module _ (h : at < length s) where
       pub other_kind :
-          (get_or s at 0 ≡ 4 → ⊥) → (get_or s at 0 ≡ 5 → ⊥) → ReadsChannel s at count p (ChannelRead.Refused Refusal.Kind at)
+          (get_or s at 0 ≡ 4 → ⊥) → (get_or s at 0 ≡ 5 → ⊥) → ReadsChannel s at count p (Err Refusal.Kind)
       other_kind a b =
           record {
             reads = λ m g e. rw (drop_here s at h, not_four at m p g _ (drop (at + 1) s) a, ne_eqb _ 5 b);
             fits = tt;
           }
 
-      pub whole : get_or s at 0 ≡ 5 → length s ≤ at + 1 → ReadsChannel s at count p ChannelRead.Whole
-      unfolding channels_read
-      whole k l = record { reads = λ m g e. rw (drop_here s at h, drop_end s (at + 1) l, k); fits = tt }
-
-      pub trailing :
-          get_or s at 0 ≡ 5 → at + 1 < length s → ReadsChannel s at count p (ChannelRead.Refused Refusal.Trailing (at + 1))
-      trailing k l =
+      pub ended : get_or s at 0 ≡ 5 → ReadsChannel s at count p (Ok None)
+      ended k =
           record {
-            reads = λ m g e. rw (drop_here s at h, k, not_four at m p g 5 (drop (at + 1) s) (λ q. omega arith), drop_here s (at + 1) l);
-            fits = tt;
+            reads = λ m g e. rw (drop_here s at h, k, not_four at m p g 5 (drop (at + 1) s) (λ q. omega arith));
+            fits = h;
           }
 
       pub body_cut :
-          get_or s at 0 ≡ 4 → length s < at + 3 → ReadsChannel s at count p (ChannelRead.Refused Refusal.Short at)
+          get_or s at 0 ≡ 4 → length s < at + 3 → ReadsChannel s at count p (Err Refusal.Short)
       body_cut k l =
           let left : length (drop (at + 1) s) < 2 = omega (arith, length-drop (at + 1) s) in
           record { reads = λ m g e. rw (drop_here s at h, k, four_short at m p g (drop (at + 1) s) left); fits = tt }
@@ -86,11 +80,20 @@ module _ (s : List ℕ) (at : ℕ) where
       unfolding channels_read
       four_judged b r m g e = rw (drop_three s at h, k, ap (λ n. rising n p f t) e ∙ r)
 
-      pub no_channel : rising count p f t ≡ false → ReadsChannel s at count p (ChannelRead.Refused Refusal.Channel at)
+      pub no_channel : rising count p f t ≡ false → ReadsChannel s at count p (Err Refusal.Channel)
       no_channel r = record { reads = four_judged false r; fits = tt }
 
       pub channel :
-          is_channel count f t ≡ true → p ≤ place f t → ReadsChannel s at count p (ChannelRead.Channel (f - 1) (t - 1))
+          is_channel count f t ≡ true → p ≤ place f t → ReadsChannel s at count p (Ok (Some (f - 1, t - 1)))
       channel i l =
           let ends = channel_ends count f t i in
           record { reads = four_judged true (and_both i (le-leb p (place f t) l)); fits = (h, omega arith, omega arith) }
+
+-- ---- what stands after a record of kind 5
+
+module _ (s : List ℕ) (at : ℕ) (m : Map) (g : Grid) where
+  pub nothing_after : length s ≤ at + 1 → Found.whole m g ≡ finish at m g (drop (at + 1) s)
+  nothing_after l = rw (drop_end s (at + 1) l)
+
+  pub trailing : at + 1 < length s → Found.refused Refusal.Trailing (at + 1) ≡ finish at m g (drop (at + 1) s)
+  trailing l = rw (drop_here s (at + 1) l)

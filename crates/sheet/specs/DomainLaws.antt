@@ -4,7 +4,7 @@
 --     body_cut              a record of kind 3 whose body is not there
 --     domain_read, domain_bad   one whose body is there: a domain that stands well, and one that is refused
 -- Assumes nothing.
-use Rattle.std.specs.Prelude.{ℕ, suc, ◌+◌, ◌-◌, ◌≤◌, ◌<◌, ◌≡◌, List, get_or, take, drop, Ok, Err}
+use Rattle.std.specs.Prelude.{ℕ, suc, ◌+◌, ◌-◌, ◌≤◌, ◌<◌, ◌≡◌, List, get_or, take, drop, Some, None, Ok, Err}
 use native.Mathlib.Omega.{arith}
 use Rattle.std.proofs.Math.ListN.{length, length-drop}
 use Rattle.std.proofs.Math.Seq.{drop-drop}
@@ -15,8 +15,7 @@ use Rattle.model.specs.declared.map.Domain.{Domain}
 use Rattle.model.specs.declared.refusal.Refusal.{Refusal}
 use Rattle.sheet.specs.DropLaws.{drop_end, drop_here}
 use Rattle.sheet.specs.Resumed.{ReadsDomain}
-use Rattle.sheet.specs.declared.answer.Cursor.{Cursor}
-use Rattle.sheet.specs.declared.answer.DomainRead.{DomainRead}
+use Rattle.sheet.specs.declared.cursor.Cursor.{Cursor}
 
 module _ (s : List ℕ) (c : Cursor) where
   abbrev kind : ℕ
@@ -25,30 +24,30 @@ module _ (s : List ℕ) (c : Cursor) where
   abbrev rest : List ℕ
   rest = drop (c.at + 1) s
 
-  pub missing : length s ≤ c.at → ReadsDomain s c (DomainRead.Refused Refusal.Short)
+  pub missing : length s ≤ c.at → ReadsDomain s c (Err Refusal.Short)
   unfolding domains_read
   missing h = record { reads = λ room. rw (drop_end s c.at h); fits = omega arith }
 
   module _ (h : c.at < length s) where
     module _ (n : kind ≡ 3 → ⊥) where
-      pub none_yet : c.map.count ≡ 0 → ReadsDomain s c (DomainRead.Refused Refusal.Kind)
+      pub none_yet : c.map.count ≡ 0 → ReadsDomain s c (Err Refusal.Kind)
       unfolding domains_read
       none_yet z =
           record { reads = λ room. rw (drop_here s c.at h, ne_eqb kind 3 n, eq-eqb c.map.count 0 z); fits = omega arith }
 
-      pub others : (c.map.count ≡ 0 → ⊥) → ReadsDomain s c DomainRead.Others
+      pub others : (c.map.count ≡ 0 → ⊥) → ReadsDomain s c (Ok None)
       unfolding domains_read
       others z =
           record { reads = λ room. rw (drop_here s c.at h, ne_eqb kind 3 n, ne_eqb c.map.count 0 z); fits = omega arith }
 
     module _ (e : kind ≡ 3) where
-      pub body_cut : length s - c.at - 1 < 20 → ReadsDomain s c (DomainRead.Refused Refusal.Short)
+      pub body_cut : length s - c.at - 1 < 20 → ReadsDomain s c (Err Refusal.Short)
       unfolding domains_read
       body_cut l =
           let f : length rest < 20 = rw length-drop (omega arith) in
           record { reads = λ room. rw (drop_here s c.at h, eq-eqb kind 3 e, lt-leb 20 (length rest) f); fits = omega arith }
 
-      module _ (d : Domain) (l : 20 ≤ length s - c.at - 1) (f : d ≡ domain_of (take (c.at + 21 - (c.at + 1)) rest)) where
+      module _ (d : Domain) (l : 20 ≤ length s - c.at - 1) (f : d ≡ domain_of (take 20 rest)) where
         verdict_decides :
             (room : ℕ)
             → judged c.at (domain_verdict c.map c.map.count d)
@@ -57,15 +56,14 @@ module _ (s : List ℕ) (c : Cursor) where
         unfolding domains_read
         verdict_decides room =
             let t : 20 ≤ length rest = rw length-drop (omega arith) in
-            let k : c.at + 21 - (c.at + 1) ≡ 20 = omega arith in
             let j : c.at + 1 + 20 ≡ c.at + 21 = omega arith in
-            rw (drop_here s c.at h, eq-eqb kind 3 e, le-leb 20 (length rest) t, drop-drop 20 (c.at + 1) s, j, f, k)
+            rw (drop_here s c.at h, eq-eqb kind 3 e, le-leb 20 (length rest) t, drop-drop 20 (c.at + 1) s, j, f)
 
         pub domain_read :
-            domain_verdict c.map c.map.count d ≡ Ok tt → ReadsDomain s c (DomainRead.Domain d)
+            domain_verdict c.map c.map.count d ≡ Ok tt → ReadsDomain s c (Ok (Some d))
         domain_read v = record { reads = λ room. rw v at (verdict_decides room); fits = omega arith }
 
         pub domain_bad :
             (r : Refusal) → domain_verdict c.map c.map.count d ≡ Err r
-            → ReadsDomain s c (DomainRead.Refused r)
+            → ReadsDomain s c (Err r)
         domain_bad r v = record { reads = λ room. rw v at (verdict_decides room); fits = omega arith }

@@ -1,48 +1,16 @@
--- Laws of Sheet, in the reader's terms: each answer on one record of one kind, and on the values of the first two.
---     missing, other_kind   no record, and one of another kind
---     body_cut, present     a record whose body is not there, and one whose body is
---     Form                  a record that stands once, as the first two do: refused, or there with a bad or a good value
+-- Laws of Sheet, in the reader's terms, on the first two records: each stands once, at a known place.
+--     Form                  such a record, with its value, the test of it and what follows
+--     form_refused, form_decided   the record is not there, or its value is tested
 -- Assumes nothing.
-use Rattle.std.specs.Prelude.{ℕ, ◌+◌, ◌-◌, ◌≤◌, ◌<◌, ◌≡◌, Bool, true, false, List, length, get_or, take, drop}
-use Rattle.std.proofs.Common.{arith, length-drop, drop-drop, eq-eqb, ne_eqb, le-leb}
-use Rattle.std.proofs.lemmas.Bool.{lt-leb}
+use Rattle.std.specs.Prelude.{ℕ, ◌+◌, ◌≡◌, Bool, List, take, drop, Ok, Err}
 use Rattle.model.specs.Basics.{number}
 use Rattle.model.specs.Map.{most}
 use Rattle.model.specs.Refusals.{check, sized, within}
 use Rattle.model.specs.Sheet.{Found, judged, one_record, region_of, beginning_map, domains_read}
 use Rattle.model.specs.declared.map.Region.{Region}
 use Rattle.model.specs.declared.refusal.Refusal.{Refusal}
-use Rattle.sheet.specs.DropLaws.{drop_end, drop_here}
+use Rattle.model.specs.Answers.{Verdict}
 use Rattle.sheet.specs.Resumed.{Opens}
-use Rattle.sheet.specs.declared.answer.Record.{Record}
-
-module _ (s : List ℕ) (at kind size : ℕ) where
-  abbrev rest : List ℕ
-  rest = drop (at + 1) s
-
-  pub missing : length s ≤ at → Opens s at kind size (Record.Refused Refusal.Short)
-  missing h = record { reads = λ go. rw (drop_end s at h); fits = omega arith }
-
-  module _ (h : at < length s) where
-    pub other_kind : (get_or s at 0 ≡ kind → ⊥) → Opens s at kind size (Record.Refused Refusal.Kind)
-    other_kind n = record { reads = λ go. rw (drop_here s at h, ne_eqb (get_or s at 0) kind n); fits = omega arith }
-
-    pub body_cut : get_or s at 0 ≡ kind → length s - at - 1 < size → Opens s at kind size (Record.Refused Refusal.Short)
-    body_cut e n =
-        let l : length rest < size = rw length-drop (omega arith) in
-        record {
-          reads = λ go. rw (drop_here s at h, eq-eqb (get_or s at 0) kind e, lt-leb size (length rest) l);
-          fits = omega arith;
-        }
-
-    pub present : get_or s at 0 ≡ kind → size ≤ length s - at - 1 → Opens s at kind size Record.Present
-    present e n =
-        let l : size ≤ length rest = rw length-drop (omega arith) in
-        record {
-          reads =
-              λ go. rw (drop_here s at h, eq-eqb (get_or s at 0) kind e, le-leb size (length rest) l, drop-drop size (at + 1) s);
-          fits = omega arith;
-        }
 
 -- a record that stands once, at a known place: its value, the test of it with its number, and what follows it
 pub record Form (A : Type 0) : Type 0 where
@@ -85,16 +53,10 @@ length_form =
     }
 
 module _ {A : Type 0} (f : Form A) (s : List ℕ) where
-  pub form_refused : {r : Refusal} → Opens s f.at f.kind f.size (Record.Refused r) → Found.refused r f.at ≡ reading f s
+  pub form_refused : {r : Refusal} → Opens s f.at f.kind f.size (Err r) → Found.refused r f.at ≡ reading f s
   form_refused o = o.reads (go f)
 
-  module _ (o : Opens s f.at f.kind f.size Record.Present) {v : A}
-      (e : v ≡ f.value (take f.size (drop (f.at + 1) s))) {b : Bool} (t : b ≡ f.good v) where
-    decided : judged f.at (check b f.refusal) (f.next v (drop (f.at + 1 + f.size) s)) ≡ reading f s
-    decided = rw (t, e) (o.reads (go f))
-
-    pub form_bad : b ≡ false → Found.refused f.refusal f.at ≡ reading f s
-    form_bad x = rw x at decided
-
-    pub form_good : b ≡ true → f.next v (drop (f.at + 1 + f.size) s) ≡ reading f s
-    form_good x = rw x at decided
+  pub form_decided :
+      Opens s f.at f.kind f.size (Ok tt) → {v : A} → v ≡ f.value (take f.size (drop (f.at + 1) s)) → {w : Verdict}
+      → w ≡ check (f.good v) f.refusal → judged f.at w (f.next v (drop (f.at + 1 + f.size) s)) ≡ reading f s
+  form_decided o e t = rw (t, e) (o.reads (go f))

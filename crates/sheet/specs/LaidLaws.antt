@@ -1,11 +1,11 @@
 -- Laws of Laid.
---     laid_none, laid_byte  nothing and one byte, laid
+--     laid_none, laid_copy  nothing, and a copy over a part of the buffer
 --     laid_then             one thing and then, past it, another
 --     laid_front            from the front, what is laid comes first
 -- Assumes nothing.
-use Rattle.std.specs.Prelude.{ℕ, ◌+◌, ◌≤◌, ◌<◌, ◌≡◌, refl, List, [], ◌∷◌, ◌++◌, leb, length, set, take, drop}
-use Rattle.std.proofs.Common.{sym, ap, ◌∙◌, append_assoc, append-nil, add_assoc, add-zero, zero-add, add-one, arith, length-append, take-append-drop, drop_of_length-le, length-take-le, take_all, take_at, drop_at, drop-drop, leb-true, leb-false}
-use Rattle.std.proofs.lemmas.List.{set_split}
+use Rattle.std.specs.Prelude.{ℕ, ◌+◌, ◌-◌, ◌≤◌, ◌≡◌, refl, List, [], ◌++◌, leb, length, take, drop}
+use Rattle.std.proofs.Common.{sym, ap, ◌∙◌, append_assoc, append-nil, add_assoc, add-zero, zero-add, arith, length-append, take-append-drop, drop_of_length-le, length-take-le, take_all, take_at, drop_at, drop-drop, leb-true, leb-false}
+use borrow.Rule.Slice.PartMut.{put_mid}
 use Rattle.model.proofs.BasicsLaws.{by_bool}
 use Rattle.sheet.specs.Laid.{laid, Laid}
 
@@ -13,9 +13,12 @@ pub laid_none : (at : ℕ) (b : List ℕ) → Laid at [] b at b
 unfolding laid
 laid_none at b = record { past = sym (add-zero at); same = rw (add-zero, take-append-drop) }
 
-pub laid_byte : (at x : ℕ) (b : List ℕ) → at < length b → Laid at (x ∷ []) b (at + 1) (set b at x)
+-- a copy over a part of the buffer is laid there
+pub laid_copy : (at : ℕ) (xs b : List ℕ) {ys : List ℕ} → ys ≡ xs → Laid at xs b (at + length xs) (put_mid at (at + length xs - at) b ys)
 unfolding laid
-laid_byte at x b h = record { past = refl; same = rw (add-one, set_split b at x h) }
+laid_copy at xs b e =
+    let k : at + length xs - at ≡ length xs = omega arith in
+    record { past = refl; same = rw (e, k, drop-drop (length xs) at b) }
 
 -- what is laid at the end of p leaves p as it is
 laid_past : (n : ℕ) (p r ys : List ℕ) → length p ≡ n → laid n ys (p ++ r) ≡ p ++ (ys ++ drop (length ys) r)

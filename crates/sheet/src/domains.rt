@@ -1,10 +1,10 @@
 // The records of kind 3: "one to eight 3".
-ghost use Rattle.std.specs.Prelude.{◌≡◌, ◌+◌, ◌<◌, ◌^◌, length, get_or, drop};
+ghost use Rattle.std.specs.Prelude.{◌≡◌, ◌<◌, length, get_or, drop};
 ghost use Rattle.model.specs.Map.{most};
-ghost use Rattle.model.specs.Sheet.{beginning_map, domains_read};
-ghost use Rattle.sheet.specs.Resumed.{ReadsDomain, ReadsFront, past_domain};
+ghost use Rattle.model.specs.Sheet.{beginning_map, with_domain, domains_read};
+ghost use Rattle.sheet.specs.Resumed.{ReadsDomain, after_front};
 
-use crate::answer::{Cursor, DomainRead, Front};
+use crate::cursor::Cursor;
 use crate::number::domain_of;
 use model::MOST;
 use model::map::{Domain, Map, Region};
@@ -12,103 +12,66 @@ use model::refusal::{Refusal, RefusedAt};
 use rights::domain::domain_verdict;
 
 // "body present (1), then the values in number order"
-fn domain_body(s: &[u8], c: Cursor) -> DomainRead
-    requires { (c.at < length s.now) × (get_or s.now c.at 0 ≡ 3) × (c.map.count < most) }
+fn domain_body(s: &[u8], c: Cursor) -> Result<Option<Domain>, Refusal>
+    requires { (c.at < length s.now) × (get_or s.now c.at 0 ≡ 3) }
     ensures { ReadsDomain s.now c result }
 {
-    let at = c.at;
-    let map = c.map;
-    if s.len() - at - 1 < 20 {
-        return DomainRead::Refused(Refusal::Short);
-    }
-    let begin = at + 1;
-    let end = at + 21;
-    let d = domain_of(&s[begin..end]);
-    let verdict = domain_verdict(map, map.count as usize, d);
-    match verdict {
-        Ok(_) => DomainRead::Domain(d),
-        Err(r) => DomainRead::Refused(r),
+    let Some(body) = s[c.at + 1..].first_chunk() else {
+        return Err(Refusal::Short);
+    };
+    let d = domain_of(body);
+    domain_verdict(c.map, usize::from(c.map.count), d)?;
+    Ok(Some(d))
+}
+
+// A domain; or none, where another record stands after a domain, and channels may.
+fn domain_record(s: &[u8], c: Cursor) -> Result<Option<Domain>, Refusal>
+    ensures { ReadsDomain s.now c result }
+{
+    match s.get(c.at) {
+        Some(3) => domain_body(s, c),
+        Some(_) if c.map.count == 0 => Err(Refusal::Kind),
+        Some(_) => Ok(None),
+        None => Err(Refusal::Short),
     }
 }
 
-fn domain_record(s: &[u8], c: Cursor) -> DomainRead
-    requires { c.map.count < most }
-    ensures { ReadsDomain s.now c result }
+fn with_domain(mut m: Map, d: Domain) -> Map
+    requires { m.count < most }
+    ensures { result ≡ with_domain m d }
 {
-    let at = c.at;
-    if s.len() <= at {
-        return DomainRead::Refused(Refusal::Short);
-    }
-    if s[at] == 3 {
-        return domain_body(s, c);
-    }
-    let map = c.map;
-    if map.count == 0 {
-        DomainRead::Refused(Refusal::Kind)
-    } else {
-        DomainRead::Others
-    }
-}
-
-// The cursor past a domain's record.
-fn with_domain(c: Cursor, d: Domain) -> Cursor
-    requires { (c.at + 21 < 2 ^ 64) × (c.map.count < most) }
-    ensures { result ≡ past_domain c d }
-{
-    let mut map = c.map;
-    let i = map.count as usize;
-    map.domains[i] = d;
-    map.count += 1;
-    let at = c.at + 21;
-    Cursor { at: at, map: map }
+    m.domains[usize::from(m.count)] = d;
+    m.count += 1;
+    m
 }
 
 // The map before the first domain.
-pub fn beginning_map(n: u32, kernel: Region) -> Map
-    ensures { result ≡ beginning_map n kernel }
+fn beginning_map(length: u32, kernel: Region) -> Map
+    ensures { result ≡ beginning_map length kernel }
 {
-    let nowhere = Region { begin: 0, end: 0 };
-    let absent = Domain {
-        code: nowhere,
-        data: nowhere,
-        entry: 0,
-    };
-    let domains = [absent; MOST];
     Map {
-        length: n,
-        kernel: kernel,
-        count: 0,
-        domains: domains,
+        length,
+        kernel,
+        ..Map::default()
     }
 }
 
-// The records of kind 3, after the length and the kernel.
-pub fn domains(s: &[u8], n: u32, kernel: Region) -> Front
-    ensures { ReadsFront s.now (domains_read most 14 (beginning_map n kernel) (drop 14 s.now)) result }
+// The records of kind 3, after the length and the kernel: where the channels follow.
+pub fn domains(s: &[u8], n: u32, kernel: Region) -> Result<Cursor, RefusedAt>
+    ensures { after_front s.now result ≡ domains_read most 14 (beginning_map n kernel) (drop 14 s.now) }
 {
-    let map = beginning_map(n, kernel);
-    let mut c = Cursor { at: 14, map: map };
-    let mut i = 0;
-    while i < MOST {
-        let found = domain_record(s, c);
-        match found {
-            DomainRead::Domain(d) => {
-                c = with_domain(c, d);
+    let mut at = 14;
+    let mut map = beginning_map(n, kernel);
+    for _ in 0..MOST {
+        let c = Cursor { at, map };
+        match domain_record(s, c) {
+            Ok(Some(d)) => {
+                at += 21;
+                map = with_domain(map, d);
             }
-            DomainRead::Others => {
-                return Front::new(Ok(()), c);
-            }
-            DomainRead::Refused(r) => {
-                return Front::new(
-                    Err(RefusedAt {
-                        refusal: r,
-                        at: c.at,
-                    }),
-                    c,
-                );
-            }
+            Ok(None) => return Ok(c),
+            Err(refusal) => return Err(RefusedAt { refusal, at }),
         }
-        i += 1;
     }
-    Front::new(Ok(()), c)
+    Ok(Cursor { at, map })
 }

@@ -3,58 +3,36 @@ ghost use Rattle.std.specs.Prelude.{◌≡◌};
 ghost use Rattle.model.specs.Sheet.{sheet_read};
 ghost use Rattle.sheet.specs.Resumed.{Opens, kernel_left, after_length, after_kernel};
 
-use crate::answer::{KernelRead, LengthRead, Record};
-use crate::number::{number_of, region_of};
+use crate::number::region_of;
+use model::call::Verdict;
+use model::map::Region;
 use model::refusal::Refusal;
 use rights::region::{sized, within};
+use rights::verdict::check;
 
 // "kind byte present (1), kind allowed (2), body present (1)"
-fn one_record(s: &[u8], at: usize, kind: u8, size: usize) -> Record
+fn one_record(s: &[u8], at: usize, kind: u8, size: usize) -> Verdict
     ensures { Opens s.now at kind size result }
 {
-    if s.len() <= at {
-        return Record::Refused(Refusal::Short);
-    }
-    if s[at] != kind {
-        return Record::Refused(Refusal::Kind);
-    }
-    if size <= s.len() - at - 1 {
-        Record::Present
-    } else {
-        Record::Refused(Refusal::Short)
-    }
+    check(at < s.len(), Refusal::Short)?;
+    check(s[at] == kind, Refusal::Kind)?;
+    check(size <= s.len() - at - 1, Refusal::Short)
 }
 
-pub fn length_record(s: &[u8]) -> LengthRead
+pub fn length_record(s: &[u8]) -> Result<u32, Refusal>
     ensures { after_length s.now result ≡ sheet_read s.now }
 {
-    let found = one_record(s, 0, 1, 4);
-    match found {
-        Record::Refused(r) => LengthRead::Refused(r),
-        Record::Present => {
-            let n = number_of(&s[1..5], 0);
-            if sized(n) {
-                LengthRead::Length(n)
-            } else {
-                LengthRead::Refused(Refusal::Length)
-            }
-        }
-    }
+    one_record(s, 0, 1, 4)?;
+    let n = u32::from_le_bytes(*s[1..].first_chunk().unwrap());
+    check(sized(n), Refusal::Length)?;
+    Ok(n)
 }
 
-pub fn kernel_record(s: &[u8], n: u32) -> KernelRead
+pub fn kernel_record(s: &[u8], n: u32) -> Result<Region, Refusal>
     ensures { after_kernel s.now n result ≡ kernel_left s.now n }
 {
-    let found = one_record(s, 5, 2, 8);
-    match found {
-        Record::Refused(r) => KernelRead::Refused(r),
-        Record::Present => {
-            let kernel = region_of(&s[6..14], 0);
-            if within(n, kernel) {
-                KernelRead::Kernel(kernel)
-            } else {
-                KernelRead::Refused(Refusal::Bounds)
-            }
-        }
-    }
+    one_record(s, 5, 2, 8)?;
+    let kernel = region_of(s[6..].first_chunk().unwrap());
+    check(within(n, kernel), Refusal::Bounds)?;
+    Ok(kernel)
 }

@@ -1,35 +1,52 @@
 // The sheet's reader and writer: bytes to a map and its grid, and back.
 #![tactic(auto)]
 
-mod answer;
 mod channels;
+mod cursor;
 mod domains;
 mod head;
 mod number;
-mod put;
 mod reader;
+mod record;
 mod writer;
 
 ghost use Rattle.std.specs.Prelude.{◌≡◌};
+ghost use Rattle.model.specs.Map.{no_map};
 ghost use Rattle.model.specs.Calls.{left, reader, writer};
 
-use crate::reader::{records, refuse};
+use crate::reader::records;
 use crate::writer::{channel_count, put_sheet};
 use model::MOST;
 use model::call::{Sheet, Writing};
 use model::map::Map;
-use model::refusal::Refusal;
+use model::refusal::{Refusal, RefusedAt};
+use rights::acceptable;
+use rights::verdict::check;
+
+// "On refusal the map is all zero".
+fn refusal(refused: RefusedAt) -> Sheet
+    ensures { result ≡ record { reading = Err refused; map = no_map } }
+{
+    Sheet {
+        reading: Err(refused),
+        map: Map::default(),
+    }
+}
 
 // Reads a sheet: its map, with its channels in the lent grid. Refused, with the refusal and its record's offset: the map all zero and the
 // grid all no.
 pub fn read(s: &[u8], grid: &mut [[bool; MOST]; MOST]) -> Sheet
     ensures { left result grid.new ≡ reader s.now }
 {
-    let sheet = records(s, grid);
-    let reading = sheet.reading;
-    match reading {
-        Ok(_) => sheet,
-        Err(refused) => refuse(refused.refusal, refused.at, grid),
+    match records(s, grid) {
+        Ok(map) => Sheet {
+            reading: Ok(()),
+            map,
+        },
+        Err(refused) => {
+            *grid = [[false; MOST]; MOST];
+            refusal(refused)
+        }
     }
 }
 
@@ -38,16 +55,8 @@ pub fn read(s: &[u8], grid: &mut [[bool; MOST]; MOST]) -> Sheet
 pub fn write(m: Map, g: [[bool; MOST]; MOST], buffer: &mut [u8]) -> Writing
     ensures { left result buffer.new ≡ writer m g buffer.old }
 {
-    let verdict = rights::acceptable(m, g);
-    match verdict {
-        Err(refusal) => Err(refusal),
-        Ok(_) => {
-            let size = 15 + 21 * (m.count as usize) + 3 * channel_count(g);
-            if size <= buffer.len() {
-                Ok(put_sheet(buffer, m, g))
-            } else {
-                Err(Refusal::Buffer)
-            }
-        }
-    }
+    acceptable(m, g)?;
+    let size = 15 + 21 * usize::from(m.count) + 3 * channel_count(g);
+    check(size <= buffer.len(), Refusal::Buffer)?;
+    Ok(put_sheet(buffer, m, g))
 }

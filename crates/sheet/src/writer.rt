@@ -1,11 +1,11 @@
-// The writer's sheet, from its records.
-ghost use Rattle.std.specs.Prelude.{◌≡◌, ◌++◌, ◌+◌, ◌*◌, ◌≤◌, length};
+// The writer's sheet: its records are laid into a lent buffer, each past the one before.
+ghost use Rattle.std.specs.Prelude.{◌≡◌, ◌+◌, ◌*◌, ◌≤◌, length};
 ghost use Rattle.model.specs.Map.{most};
-ghost use Rattle.model.specs.Sheet.{length_record, kernel_record, sheet_bytes};
+ghost use Rattle.model.specs.Sheet.{domain_records, channel_records, sheet_bytes};
 ghost use Rattle.model.specs.GridLaws.{channel_count};
 ghost use Rattle.sheet.specs.Laid.{Laid};
 
-use crate::put::{put_byte, put_channels, put_domains, put_end, put_number, put_region};
+use crate::record::{domain_record, head};
 use model::MOST;
 use model::map::Map;
 
@@ -14,28 +14,46 @@ pub fn channel_count(g: [[bool; MOST]; MOST]) -> usize
     ensures { (result ≡ channel_count g) × (result ≤ most * most) }
 {
     let mut n = 0;
-    let mut p = 0;
-    while p < MOST * MOST {
-        let row = p / MOST;
-        let column = p % MOST;
-        p += 1;
-        if g[row][column] {
-            n += 1;
-        }
+    for p in 0..MOST * MOST {
+        n += usize::from(g[p / MOST][p % MOST]);
     }
     n
 }
 
-// The length's record and the kernel's, from the buffer's front.
-fn put_head(buffer: &mut [u8], m: Map) -> usize
-    requires { 14 ≤ length buffer.old }
-    ensures { Laid 0 (length_record m.length ++ kernel_record m.kernel) buffer.old result buffer.new }
+// Lays the bytes at an offset, and returns the offset past them.
+fn lay(buffer: &mut [u8], at: usize, bytes: &[u8]) -> usize
+    requires { at + length bytes.now ≤ length buffer.old }
+    ensures { Laid at bytes.now buffer.old result buffer.new }
 {
-    let kernel = m.kernel;
-    let at_length = put_byte(buffer, 0, 1);
-    let at_two = put_number(buffer, at_length, m.length);
-    let at_kernel = put_byte(buffer, at_two, 2);
-    put_region(buffer, at_kernel, kernel)
+    let next = at + bytes.len();
+    buffer[at..next].copy_from_slice(bytes);
+    next
+}
+
+fn put_domains(buffer: &mut [u8], at: usize, m: Map) -> usize
+    requires { (m.count ≤ most) × (at + 21 * m.count ≤ length buffer.old) }
+    ensures { Laid at (domain_records m 0 m.count) buffer.old result buffer.new }
+{
+    let mut next = at;
+    for &d in &m.domains[..usize::from(m.count)] {
+        next = lay(buffer, next, &domain_record(d));
+    }
+    next
+}
+
+fn put_channels(buffer: &mut [u8], at: usize, g: [[bool; MOST]; MOST]) -> usize
+    requires { at + length (channel_records g 0 (most * most)) ≤ length buffer.old }
+    ensures { Laid at (channel_records g 0 (most * most)) buffer.old result buffer.new }
+{
+    let mut next = at;
+    for p in 0..MOST * MOST {
+        let row = p / MOST;
+        let column = p % MOST;
+        if g[row][column] {
+            next = lay(buffer, next, &[4, (row + 1) as u8, (column + 1) as u8]);
+        }
+    }
+    next
 }
 
 // The whole sheet, from the buffer's front.
@@ -43,8 +61,8 @@ pub fn put_sheet(buffer: &mut [u8], m: Map, g: [[bool; MOST]; MOST]) -> usize
     requires { (m.count ≤ most) × (15 + 21 * m.count + 3 * channel_count g ≤ length buffer.old) }
     ensures { Laid 0 (sheet_bytes m g) buffer.old result buffer.new }
 {
-    let at_domains = put_head(buffer, m);
+    let at_domains = lay(buffer, 0, &head(m));
     let at_channels = put_domains(buffer, at_domains, m);
     let at_five = put_channels(buffer, at_channels, g);
-    put_end(buffer, at_five)
+    lay(buffer, at_five, &[5])
 }

@@ -17,10 +17,8 @@ pub fn write_read(
 ) -> Sheet
     ensures { ReadsBack m g buffer.old result grid.new }
 {
-    match sheet::write(m, g, buffer) {
-        Ok(n) => sheet::read(&buffer[..n], grid),
-        Err(_) => sheet::read(&buffer[..0], grid),
-    }
+    let n = sheet::write(m, g, buffer).unwrap_or(0);
+    sheet::read(&buffer[..n], grid)
 }
 
 // Read and written: where the reader finds a whole sheet, the writer sets the same bytes.

@@ -1,10 +1,8 @@
--- `sheet::read` meets its contract. How the last record closed says which of the definition's two reports it is, and a refusal
--- clears the grid again.
 use Rattle.sheet.specs.ReaderLaws.{closed_whole, closed_refused}
 use Rattle.sheet.proofs.read.Goals as goal
 
 pub returns-in-Ok : goal.returns-in-Ok
-returns-in-Ok c = closed_whole _ _ _ c.records-sheet.ensures c.in-Ok.is
+returns-in-Ok c = closed_whole _ _ c.in-Ok.ensures
 
 pub returns-in-Err : goal.returns-in-Err
-returns-in-Err c = closed_refused _ _ _ c.records-sheet.ensures c.in-Err.is c.refuse.ensures
+returns-in-Err c = rw c.refusal.ensures (closed_refused _ c.records.new.grid c.in-Err.ensures)

@@ -1,22 +1,27 @@
--- `sheet::write` meets its contract. Its three ways out are the writer's three cases: the size that it asks of the buffer is the
--- sheet's length.
-use mathlib.Core.Path.{sym}
-use native.Mathlib.Omega.{arith}
-use borrow.Author.Rules.{rules}
+use Rattle.std.proofs.Common.{rules, ◌≡◌, Ok, Err}
 use Rattle.model.proofs.RefusalsLaws.{acceptable}
-use Rattle.sheet.specs.WriterLaws.{writer_refused, writer_long, writer_wrote}
+use Rattle.model.specs.Refusals.{accepts}
+use Rattle.model.specs.Calls.{writer}
+use Rattle.model.specs.declared.refusal.Refusal.{Refusal}
+use Rattle.sheet.specs.WriterLaws.{writer_long, writer_wrote}
 use Rattle.sheet.proofs.write.Goals as goal
 
+pub returns-in_err-acceptable : goal.returns-in_err-acceptable
+unfolding writer
+returns-in_err-acceptable c = search rules
+
+pub returns-in_err-check : goal.returns-in_err-check
+returns-in_err-check c =
+    let e : c.from_residual-in_err-check.result ≡ Err Refusal.Buffer = search rules in
+    let a : accepts c.args.m c.args.g ≡ Ok tt = search rules in
+    rw e (writer_long _ _ _ a (search rules))
+
 pub put_sheet-requires : goal.put_sheet-requires
-put_sheet-requires c = ((acceptable _ _ (sym c.in-Ok.ensures)).few, search rules)
+put_sheet-requires c =
+    let a : accepts c.args.m c.args.g ≡ Ok tt = search rules in
+    ((acceptable _ _ a).few, search rules)
 
-pub returns-in-Err : goal.returns-in-Err
-returns-in-Err c = writer_refused _ _ _ (sym c.in-Err.ensures)
-
-pub returns-then-size-buffer : goal.returns-then-size-buffer
-returns-then-size-buffer c =
-    writer_wrote _ _ _ (sym c.in-Ok.ensures) (omega arith)
-    c.put_sheet.ensures
-
-pub returns-else-size-buffer : goal.returns-else-size-buffer
-returns-else-size-buffer c = writer_long _ _ _ (sym c.in-Ok.ensures) (omega arith)
+pub returns : goal.returns
+returns c =
+    let a : accepts c.args.m c.args.g ≡ Ok tt = search rules in
+    writer_wrote _ _ _ a (search rules) c.put_sheet.ensures

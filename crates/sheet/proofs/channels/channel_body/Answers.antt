@@ -1,30 +1,53 @@
--- `sheet::channels::channel_body` meets its contract: its three tests are the definition's, in the definition's order, and a
--- channel's ends are at least 1 and at most the count.
-use mathlib.Core.Path.{sym, ◌∙◌}
-use borrow.Author.Tests.{lt-leb}
-use native.Mathlib.Omega.{arith}
-use Rattle.model.proofs.GridLaws.{channel_ends}
+use Rattle.std.proofs.Common.{rules, arith, ℕ, ◌≡◌, ◌+◌, ◌-◌, ◌≤◌, sym, ◌∙◌, true, false, leb, List, length, get_or, take, drop, Err}
+use Rattle.std.proofs.lemmas.List.{take_rest, get_or-drop}
+use Rattle.std.proofs.lemmas.Bool.{leb-true}
+use Rattle.model.specs.Sheet.{place}
+use Rattle.model.specs.declared.refusal.Refusal.{Refusal}
 use Rattle.model.proofs.TestLaws.{and_pass, and_stop}
 use Rattle.sheet.specs.ChannelReadLaws.{body_cut, no_channel, channel}
 use Rattle.sheet.proofs.channels.channel_body.Goals as goal
 
-pub returns-then-s-at-lt2 : goal.returns-then-s-at-lt2
-returns-then-s-at-lt2 c = body_cut _ _ _ _ c.requires.0 c.requires.1 (omega arith)
+-- the byte that a rest of the bytes has at a place
+byte_at : (s : List ℕ) (n i k : ℕ) → n + i ≡ k → get_or (take (length s - n) (drop n s)) i 0 ≡ get_or s k 0
+byte_at s n i k e = rw (take_rest s n, ← e) (get_or-drop n s i 0)
 
-pub returns-then-not-is_channel : goal.returns-then-not-is_channel
-returns-then-not-is_channel c =
-    no_channel _ _ _ _ (omega arith) c.requires.1
-    (and_stop _ c.is_channel.ensures c.if-not-is_channel.true)
+pub returns-in_default : goal.returns-in_default
+returns-in_default c = body_cut _ _ _ _ c.requires.0 c.requires.1 (search rules)
+
+pub returns-in_err-check : goal.returns-in_err-check
+returns-in_err-check c =
+    let a = c.args in
+    let from = byte_at a.s.now (a.at + 1) 0 (a.at + 1) (omega arith) in
+    let to = byte_at a.s.now (a.at + 1) 1 (a.at + 2) (omega arith) in
+    let e : c.from_residual.result ≡ Err Refusal.Channel = search rules in
+    let l : a.at + 3 ≤ length a.s.now = search rules in
+    let i : c.is_channel.result ≡ false = search rules in
+    rw e (no_channel _ _ _ _ l c.requires.1 (and_stop _ (rw (from, to) at c.is_channel.ensures) i))
 
 pub overflow_sub-row : goal.overflow_sub-row
-overflow_sub-row c = (channel_ends _ _ _ (sym c.is_channel.ensures ∙ c.if-not-is_channel.false)).from_low
+overflow_sub-row c = search rules
 
-pub returns-then-p-row : goal.returns-then-p-row
-returns-then-p-row c =
-    channel _ _ _ _ (omega arith) c.requires.1
-    (sym c.is_channel.ensures ∙ c.if-not-is_channel.false) c.if-p-row.true
+pub overflow_sub-column : goal.overflow_sub-column
+overflow_sub-column c = search rules
 
-pub returns-else-p-row : goal.returns-else-p-row
-returns-else-p-row c =
-    no_channel _ _ _ _ (omega arith) c.requires.1
-    (and_pass _ c.is_channel.ensures c.if-not-is_channel.false ∙ lt-leb _ _ c.if-p-row.false)
+pub returns-in_err-check-2 : goal.returns-in_err-check-2
+returns-in_err-check-2 c =
+    let a = c.args in
+    let from = byte_at a.s.now (a.at + 1) 0 (a.at + 1) (omega arith) in
+    let to = byte_at a.s.now (a.at + 1) 1 (a.at + 2) (omega arith) in
+    let e : c.from_residual-in_err-check-2.result ≡ Err Refusal.Channel = search rules in
+    let l : a.at + 3 ≤ length a.s.now = search rules in
+    let i : c.is_channel.result ≡ true = search rules in
+    let p : leb a.p (place (get_or a.s.now (a.at + 1) 0) (get_or a.s.now (a.at + 2) 0)) ≡ false = search rules in
+    rw e (no_channel _ _ _ _ l c.requires.1 (and_pass _ (rw (from, to) at c.is_channel.ensures) i ∙ p))
+
+pub returns : goal.returns
+returns c =
+    let a = c.args in
+    let from = byte_at a.s.now (a.at + 1) 0 (a.at + 1) (omega arith) in
+    let to = byte_at a.s.now (a.at + 1) 1 (a.at + 2) (omega arith) in
+    let l : a.at + 3 ≤ length a.s.now = search rules in
+    let i : c.is_channel.result ≡ true = search rules in
+    let p : leb a.p (place (get_or a.s.now (a.at + 1) 0) (get_or a.s.now (a.at + 2) 0)) ≡ true = search rules in
+    rw (c.from-row.ensures, c.from-column.ensures, from, to)
+    (channel _ _ _ _ l c.requires.1 (sym (rw (from, to) at c.is_channel.ensures) ∙ i) (leb-true _ _ p))

@@ -1,17 +1,15 @@
--- `sheet::domains::domain_body` meets its contract. Each exit is a law of a record of kind 3.
-use mathlib.Core.Path.{sym}
+use Rattle.std.proofs.Common.{rules, ◌≡◌, ◌+◌, Err}
+use Rattle.std.proofs.lemmas.List.{take_rest}
 use Rattle.sheet.specs.DomainLaws.{body_cut, domain_read, domain_bad}
 use Rattle.sheet.proofs.domains.domain_body.Goals as goal
 
-pub returns-then-s-at-lt20 : goal.returns-then-s-at-lt20
-returns-then-s-at-lt20 c = body_cut _ _ c.requires.0 c.requires.1 c.if-s-at-lt20.true
+pub returns-in_default : goal.returns-in_default
+returns-in_default c = body_cut _ _ c.requires.0 c.requires.1 (search rules)
 
-pub returns-in-Ok : goal.returns-in-Ok
-returns-in-Ok c =
-    domain_read _ _ c.requires.0 c.requires.1 _ c.if-s-at-lt20.false c.domain_of-d.ensures
-    (sym c.in-Ok.ensures)
+pub returns-in_err-domain_verdict : goal.returns-in_err-domain_verdict
+returns-in_err-domain_verdict c =
+    let e : c.from_residual.result ≡ Err c.in_err-domain_verdict.field-0.0 = search rules in
+    rw e (domain_bad _ _ c.requires.0 c.requires.1 c.domain_of-d.result (search rules) (search (rules, take_rest c.args.s.now (c.args.c.at + 1))) _ (search rules))
 
-pub returns-in-Err : goal.returns-in-Err
-returns-in-Err c =
-    domain_bad _ _ c.requires.0 c.requires.1 _ c.if-s-at-lt20.false c.domain_of-d.ensures _
-    (sym c.in-Err.ensures)
+pub returns : goal.returns
+returns c = domain_read _ _ c.requires.0 c.requires.1 c.domain_of-d.result (search rules) (search (rules, take_rest c.args.s.now (c.args.c.at + 1))) (search rules)

@@ -1,16 +1,19 @@
--- `sheet::head::length_record` meets its contract. Each exit is a law of the record.
+use Rattle.std.proofs.Common.{rules, ◌≡◌, Err}
 use Rattle.model.specs.Sheet.{sheet_read}
-use Rattle.sheet.specs.HeadLaws.{length_form, form_refused, form_bad, form_good}
+use Rattle.sheet.specs.HeadLaws.{length_form, form_refused, form_decided}
 use Rattle.sheet.proofs.head.length_record.Goals as goal
 
-pub returns-in-Refused : goal.returns-in-Refused
+pub returns-in_err-one_record : goal.returns-in_err-one_record
 unfolding sheet_read
-returns-in-Refused c = form_refused length_form _ c.in-Refused.ensures
+returns-in_err-one_record c = search (rules, form_refused length_form c.args.s.now c.in_err-one_record.ensures)
 
-pub returns-then-sized : goal.returns-then-sized
+pub returns-in_err-check : goal.returns-in_err-check
 unfolding sheet_read
-returns-then-sized c = form_good length_form _ c.in-Present.ensures c.number_of-n.ensures c.sized.ensures c.if-sized.true
+returns-in_err-check c =
+    let e : c.from_residual-in_err-check.result ≡ Err c.in_err-check.field-0.0 = search rules in
+    rw e (rw c.in_err-check.was at (form_decided length_form c.args.s.now c.in_ok-one_record.ensures {v = c.from_le_bytes-n.result} (search rules) {w = c.check.result} (search rules)))
 
-pub returns-else-sized : goal.returns-else-sized
+pub returns : goal.returns
 unfolding sheet_read
-returns-else-sized c = form_bad length_form _ c.in-Present.ensures c.number_of-n.ensures c.sized.ensures c.if-sized.false
+returns c =
+    rw c.in_ok-check.was at (form_decided length_form c.args.s.now c.in_ok-one_record.ensures {v = c.from_le_bytes-n.result} (search rules) {w = c.check.result} (search rules))
