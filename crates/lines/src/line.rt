@@ -92,6 +92,7 @@ impl Page<'_> {
     }
 
     // "For a trace this line stands between the events and the active domain"
+    #[tactic(auto, unfolding(crate::specs::Puts::puts))]
     pub fn broken_line(&mut self, read: EventRead, at: usize)
         ensures { self.new ≡ onto self.old (broken_line read at) }
     {

@@ -22,7 +22,7 @@ impl Page<'_> {
             let read = machine::read_event(&trace[at..]);
             let Ok((e, k)) = read else {
                 self.broken_line(read, at);
-                return self.active_line(s.active);
+                break;
             };
             let stepped = machine::event(m, g, s, memory, e);
             s = stepped.state;

@@ -22,6 +22,7 @@ impl Page<'_> {
         }
     }
 
+    #[tactic(auto, using(crate::specs::Decimal::decimal_printed))]
     pub fn number(&mut self, n: u64)
         ensures { self.new ≡ onto self.old (decimal n) }
     {

@@ -46,7 +46,7 @@ fn load<'a>(rt: &impl Files, path: &str, buffer: &'a mut [u8]) -> &'a mut [u8]
 fn show(rt: &impl Print, sheet: &[u8], memory: &mut [u8], trace: &[u8], room: &mut [u8; TEXT]) {
     let text = &mut room[..];
     let n = lines::transcript(sheet, memory, trace, text);
-    let _ = rt.write_all(text.get(..n).unwrap_or_default());
+    let _ = rt.write_all(&text[..n]);
 }
 
 fn main(rt: HostRuntime) {

@@ -1,5 +1,5 @@
 -- `lines::text::Page::trace_lines` meets its contract: the loop's invariant holds at the start and after each turn, and each way out follows from it.
-use Rattle.std.proofs.Common.{ℕ, ◌+◌, ◌≡◌, List, Ok, refl, ap, ◌∙◌, arith}
+use Rattle.std.proofs.Common.{ℕ, ◌+◌, ◌≡◌, List, Ok, refl, sym, ap, ◌∙◌, subst, arith}
 use Rattle.model.specs.Map.{Grid}
 use Rattle.model.specs.Refusals.{accepts}
 use Rattle.model.proofs.TraceLaws.{rest_read, read_takes}
@@ -12,7 +12,9 @@ use Rattle.lines.specs.Telling.{told, tells}
 use Rattle.lines.specs.TellingLaws.{tells_start, tells_end}
 use Rattle.lines.specs.NodeLaws.{starts, turns, stops}
 use Rattle.lines.specs.Pages.{place, onto, paged}
+use Rattle.lines.specs.declared.text.Page.{Page}
 use Rattle.lines.proofs.text.Page.trace_lines.Goals as goal
+use Rattle.lines.proofs.text.Page.trace_lines.Goals.{else-loop-at-test, then-loop-at-test+in_default}
 
 -- the whole, from where the loop begins
 whole :
@@ -22,18 +24,6 @@ whole m g a bytes memory x q = ap (λ s. tells m g bytes 0 0 x s memory) (starts
 
 pub loop-at-init : goal.loop-at-init
 loop-at-init c = (c.requires.1, (starts _ _ c.requires.0 c.start.ensures).1, omega arith, refl)
-
-pub returns-in_default : goal.returns-in_default
-returns-in_default c =
-    let loop = c.loop-at in
-    let a = c.args in
-    let bytes = a.trace.now in
-    ap (λ p. left p loop.memory) c.active_line.ensures
-    ∙ ap (λ p. left (onto p (active_line loop.s.active)) loop.memory) c.broken_line.ensures
-    ∙ ap (paged loop.self)
-    (stops a.m a.g c.requires.0 loop.s loop.memory loop.invariant.0 loop.invariant.1 bytes loop.at loop.n (place loop.self) (omega arith)
-    _ c.in_default.is (rest_read bytes loop.at c.read_event-read.ensures) refl refl)
-    ∙ loop.invariant.3 ∙ ap (paged a.self.now) (whole a.m a.g c.requires.0 bytes a.memory.now (place a.self.now) c.start.ensures)
 
 pub overflow_add-at : goal.overflow_add-at
 overflow_add-at c = omega (arith, read_takes c.args.trace.now c.loop-at.at c.loop-at-test.true c.read_event-read.ensures c.in-Ok.is)
@@ -62,6 +52,17 @@ returns c =
     let a = c.args in
     let loop = c.loop-at in
     let bytes = a.trace.now in
-    ap (λ p. left p loop.memory) c.active_line-2.ensures
-    ∙ ap (paged loop.self) (tells_end a.m a.g bytes loop.at loop.n (place loop.self) loop.s loop.memory (omega arith))
-    ∙ loop.invariant.3 ∙ ap (paged a.self.now) (whole a.m a.g c.requires.0 bytes a.memory.now (place a.self.now) c.start.ensures)
+    let Ends : Page → Type 0 =
+    λ p. left (onto p (active_line loop.s.active)) loop.memory
+    ≡ paged loop.self (tells a.m a.g bytes loop.at loop.n (place loop.self) loop.s loop.memory) in
+    let ends : Ends c.loop-at-test.self =
+    elim c.loop-at-test.branch [
+      | else-loop-at-test w ↦ subst Ends (sym w.self-is)
+          (ap (paged loop.self) (tells_end a.m a.g bytes loop.at loop.n (place loop.self) loop.s loop.memory (omega arith)))
+      | then-loop-at-test+in_default w ↦ subst Ends (sym (w.self-is ∙ w.broken_line.ensures))
+          (ap (paged loop.self)
+          (stops a.m a.g c.requires.0 loop.s loop.memory loop.invariant.0 loop.invariant.1 bytes loop.at loop.n (place loop.self) (omega arith)
+          _ w.in_default.is (rest_read bytes loop.at w.read_event-read.ensures) refl refl))
+    ] in
+    ap (λ p. left p loop.memory) c.active_line.ensures ∙ ends ∙ loop.invariant.3
+    ∙ ap (paged a.self.now) (whole a.m a.g c.requires.0 bytes a.memory.now (place a.self.now) c.start.ensures)
