@@ -1,69 +1,96 @@
-// What is written to standard output, piece by piece.
-use crate::table::{find, part, past};
+// The library's values in words.
 use lines::number::refusal_number;
-use model::call::Verdict;
+use model::call::{Close, Ending, Permission, Reading, Reply, Verdict, Writing};
+use model::event::Answer;
 use model::refusal::Refusal;
+use std::fmt;
 
-pub fn word(w: &[u8]) {
-    io::write_all(1, w);
-}
-
-// A word and its number.
-pub fn wide(w: &[u8], n: u64) {
-    word(w);
-    io::print_decimal(1, n);
-}
-
-pub fn named(w: &[u8], n: u32) {
-    wide(w, n as u64);
-}
-
-pub fn small(w: &[u8], n: u8) {
-    wide(w, n as u64);
-}
-
-pub fn size(w: &[u8], n: usize) {
-    wide(w, n as u64);
-}
+#[derive(Clone, Copy)]
+pub struct Said<T>(pub T);
 
 // "its number"
-pub fn refusal(r: Refusal) {
-    named(b"", refusal_number(r));
-}
-
-// "as '12 at 7'"
-pub fn refused_at(r: Refusal, at: usize) {
-    refusal(r);
-    size(b" at ", at);
-}
-
-pub fn verdict(v: Verdict) {
-    match v {
-        Verdict::Accepted => word(b"accepted"),
-        Verdict::Refused(r) => refusal(r),
+impl fmt::Display for Said<Refusal> {
+    fn fmt<W: fmt::Write>(&self, f: &mut fmt::Formatter<W>) -> fmt::Result {
+        write!(f, "{}", refusal_number(self.0))
     }
 }
 
-// A line with its end as a comma, but for the last one's end, which is the case's own; the next line's offset is returned.
-fn piece(lines: &[u8], from: usize) -> usize {
-    let to = find(lines, b'\n', from);
-    let next = past(lines, to);
-    word(part(lines, from, to));
-    if next < lines.len() {
-        word(b", ");
-    }
-    next
-}
-
-// The lines of a transcript in one line. There are no more of them than bytes.
-pub fn joined(lines: &[u8]) {
-    let mut from = 0;
-    let mut i = 0;
-    while i < lines.len() {
-        if lines.len() <= from {
-            return;
+impl fmt::Display for Said<Verdict> {
+    fn fmt<W: fmt::Write>(&self, f: &mut fmt::Formatter<W>) -> fmt::Result {
+        match self.0 {
+            Verdict::Accepted => f.write_str("accepted"),
+            Verdict::Refused(r) => Said(r).fmt(f),
         }
-        from = piece(lines, from);
-        i += 1;
+    }
+}
+
+impl fmt::Display for Said<Permission> {
+    fn fmt<W: fmt::Write>(&self, f: &mut fmt::Formatter<W>) -> fmt::Result {
+        match self.0 {
+            Permission::Yes => f.write_str("yes"),
+            Permission::No => f.write_str("no"),
+            Permission::Refused(r) => Said(r).fmt(f),
+        }
+    }
+}
+
+impl fmt::Display for Said<Writing> {
+    fn fmt<W: fmt::Write>(&self, f: &mut fmt::Formatter<W>) -> fmt::Result {
+        match self.0 {
+            Writing::Wrote(n) => write!(f, "wrote {n}"),
+            Writing::Refused(r) => Said(r).fmt(f),
+        }
+    }
+}
+
+impl fmt::Display for Said<Reading> {
+    fn fmt<W: fmt::Write>(&self, f: &mut fmt::Formatter<W>) -> fmt::Result {
+        match self.0 {
+            Reading::Whole => f.write_str("whole"),
+            Reading::Refused(r, at) => write!(f, "{} at {at}", Said(r)),
+        }
+    }
+}
+
+impl fmt::Display for Said<Close> {
+    fn fmt<W: fmt::Write>(&self, f: &mut fmt::Formatter<W>) -> fmt::Result {
+        match self.0 {
+            Close::Done => f.write_str("done"),
+            Close::Broken(r, at) => write!(f, "{} at {at}", Said(r)),
+            Close::Refused(r) => Said(r).fmt(f),
+        }
+    }
+}
+
+impl fmt::Display for Said<Ending> {
+    fn fmt<W: fmt::Write>(&self, f: &mut fmt::Formatter<W>) -> fmt::Result {
+        match self.0 {
+            Ending::Spent => f.write_str("spent"),
+            Ending::Idle => f.write_str("idle"),
+            Ending::Refused(r) => Said(r).fmt(f),
+        }
+    }
+}
+
+impl fmt::Display for Said<Reply> {
+    fn fmt<W: fmt::Write>(&self, f: &mut fmt::Formatter<W>) -> fmt::Result {
+        match self.0 {
+            Reply::Answered(a) => Said(a).fmt(f),
+            Reply::Refused(r) => Said(r).fmt(f),
+        }
+    }
+}
+
+// What a call answers in these cases. The others are told by the program's lines.
+impl fmt::Display for Said<Answer> {
+    fn fmt<W: fmt::Write>(&self, f: &mut fmt::Formatter<W>) -> fmt::Result {
+        match self.0 {
+            Answer::Idle => f.write_str("idle"),
+            Answer::Ran(d) => write!(f, "ran {d}"),
+            Answer::Switched(d) => write!(f, "switched {d}"),
+            Answer::Taken(d) => write!(f, "taken {d}"),
+            Answer::NoDomain(d) => write!(f, "no domain {d}"),
+            _ => f.write_str("another answer"),
+        }
     }
 }
