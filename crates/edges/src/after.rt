@@ -44,12 +44,11 @@ fn put_bytes(told: &mut String, memory: &[u8], at: &str) -> Result<(), AllocErro
 pub fn play(alloc: Global, case: Pieces<'_>) -> Result<String, AllocError> {
     let mut memory = case_l::memory(alloc, case, 256)?;
     let sheet = bytes(alloc, case_l::SHEET)?;
-    let trace = bytes(alloc, case.text(3))?;
     let mut told = transcript(
         alloc,
         sheet.as_slice(),
         memory.clone()?.as_mut_slice(),
-        trace.as_slice(),
+        case.text(3),
     )?;
     if !case.text(4).is_empty() {
         let played = play_on(alloc, with_active(1), memory.as_mut_slice(), case.text(3))?;

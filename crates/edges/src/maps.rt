@@ -54,7 +54,7 @@ pub fn map(case: Pieces<'_>) -> Map {
 
 // The grid with a mark more. Two zeros are none.
 pub fn marked(mut g: [[bool; MOST]; MOST], from: usize, to: usize) -> [[bool; MOST]; MOST] {
-    if 1 <= from && from <= MOST && 1 <= to && to <= MOST {
+    if (1..=MOST).contains(&from) && (1..=MOST).contains(&to) {
         g[from - 1][to - 1] = true;
     }
     g

@@ -1,6 +1,7 @@
 // "The writer sets exactly the sheet's bytes and leaves the rest." What the reader gives back beside them.
 use crate::case_l;
 use crate::maps::{grid, map};
+use crate::node::ROOM;
 use crate::numbers::bytes;
 use crate::say::Said;
 use crate::table::Pieces;
@@ -11,7 +12,7 @@ use std::fmt::Write;
 // A buffer of LENGTH bytes, each 255 before, in front of more of them.
 // NAME: Write;MAP;LENGTH
 pub fn write(alloc: Global, case: Pieces<'_>) -> Result<String, AllocError> {
-    let mut space = [255u8; 352];
+    let mut space = [255; ROOM];
     let buffer = space.get_mut(..case.number(4)).unwrap_or_default();
     let mut told = Said(sheet::write(map(case), grid(case), buffer)).to_string(alloc)?;
     for at in [0, 59, 60] {
