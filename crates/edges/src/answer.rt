@@ -1,7 +1,22 @@
-// A domain's part of the state in words.
+// An answer, a status and a box in words.
 use crate::say::Said;
+use model::event::Answer;
 use model::state::{Context, Mailbox, Reason, State, Status};
 use std::fmt;
+
+// What a call answers in these cases. The others are told by the program's lines.
+impl fmt::Display for Said<Answer> {
+    fn fmt<W: fmt::Write>(&self, f: &mut fmt::Formatter<W>) -> fmt::Result {
+        match self.0 {
+            Answer::Idle => f.write_str("idle"),
+            Answer::Ran(d) => write!(f, "ran {d}"),
+            Answer::Switched(d) => write!(f, "switched {d}"),
+            Answer::Taken(d) => write!(f, "taken {d}"),
+            Answer::NoDomain(d) => write!(f, "no domain {d}"),
+            _ => f.write_str("another answer"),
+        }
+    }
+}
 
 impl fmt::Display for Said<Reason> {
     fn fmt<W: fmt::Write>(&self, f: &mut fmt::Formatter<W>) -> fmt::Result {

@@ -3,7 +3,18 @@ use crate::after::{play_on, with_active};
 use crate::case_l;
 use crate::say::Said;
 use crate::table::Pieces;
+use model::call::Ending;
 use std::alloc::{AllocError, Global};
+use std::fmt;
+
+impl fmt::Display for Said<Ending> {
+    fn fmt<W: fmt::Write>(&self, f: &mut fmt::Formatter<W>) -> fmt::Result {
+        match self.0 {
+            Ending::Spent => f.write_str("spent"),
+            Ending::Idle => f.write_str("idle"),
+        }
+    }
+}
 
 // NAME: Batch;PROGRAM;PROGRAM;TRACE;ACTIVE;LENGTH;N
 pub fn batch(alloc: Global, case: Pieces<'_>) -> Result<String, AllocError> {

@@ -19,9 +19,8 @@ pub fn memory(alloc: Global, case: Pieces<'_>, length: usize) -> Result<Vec<u8>,
     Ok(memory)
 }
 
-// No place is 44.
 pub fn map() -> Map {
-    maps::map_of(44, "")
+    maps::map_of(0, "")
 }
 
 pub fn grid() -> [[bool; MOST]; MOST] {

@@ -35,6 +35,6 @@ fn context(domain: Pieces<'_>) -> Context {
 pub fn state(case: Pieces<'_>) -> State {
     State {
         active: case.number(2),
-        contexts: array::from_fn(|i| context(Pieces::numbers(case.text(3 + i)))),
+        contexts: array::from_fn(|i| context(case.numbers(3 + i))),
     }
 }

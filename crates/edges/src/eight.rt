@@ -36,7 +36,8 @@ pub fn put_sheet(sheet: &mut [u8], all: &str) {
     if all.is_empty() {
         put(sheet, 0, SHEET);
     } else {
-        put_largest(sheet);
+        // The buffer has room.
+        let _ = put_largest(sheet);
     }
 }
 

@@ -27,7 +27,7 @@ fn event_of(numbers: Pieces<'_>) -> Event {
 pub fn event(alloc: Global, case: Pieces<'_>) -> Result<String, AllocError> {
     let mut memory = vec![in alloc; 0; case.number(5)]?;
     let s = with_active(case.number(4));
-    let e = event_of(Pieces::numbers(case.text(6)));
+    let e = event_of(case.numbers(6));
     told(
         alloc,
         machine::event(map(case), grid(case), s, memory.as_mut_slice(), e),
@@ -39,7 +39,7 @@ pub fn event(alloc: Global, case: Pieces<'_>) -> Result<String, AllocError> {
 pub fn call(alloc: Global, case: Pieces<'_>) -> Result<String, AllocError> {
     let (m, g, s) = (case_l::map(), case_l::grid(), state(case));
     let mut memory = [0; 256];
-    let stepped = match event_of(Pieces::numbers(case.text(1))) {
+    let stepped = match event_of(case.numbers(1)) {
         Event::Step => machine::step(m, g, s, &mut memory),
         Event::Tick => machine::tick(m, g, s, &mut memory),
         Event::WordIn(d, w) => machine::word_in(m, g, s, &mut memory, d, w),

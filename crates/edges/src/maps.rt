@@ -11,15 +11,12 @@ const PLACES: usize = 44;
 // "memory 256, kernel 0-32, domain 1 code 32-64, data 64-96, entry 32, domain 2 code 96-128, data 128-160, entry 96"
 const CASE_L: &str = "256 0 32 2 32 64 64 96 32 96 128 128 160 96";
 
-fn domain(n: &[u32]) -> Domain {
-    match *n {
-        [code, code_end, data, data_end, entry] => Domain {
-            code: Region {
-                begin: code,
-                end: code_end,
-            },
+fn domain(numbers: &[u32]) -> Domain {
+    match *numbers {
+        [begin, end, data_begin, data_end, entry] => Domain {
+            code: Region { begin, end },
             data: Region {
-                begin: data,
+                begin: data_begin,
                 end: data_end,
             },
             entry,
@@ -33,17 +30,15 @@ pub fn map_of(from: usize, others: &str) -> Map {
     let mut places = [0; PLACES];
     put(&mut places, 0, CASE_L);
     put(&mut places, from, others);
+    let [length, begin, end, count, ..] = places;
     let mut domains = [Domain::default(); MOST];
-    for (d, n) in domains.iter_mut().zip(places[4..].chunks_exact(5)) {
-        *d = domain(n);
+    for (d, numbers) in domains.iter_mut().zip(places[4..].chunks_exact(5)) {
+        *d = domain(numbers);
     }
     Map {
-        length: places[0],
-        kernel: Region {
-            begin: places[1],
-            end: places[2],
-        },
-        count: (places[3] & 0xff) as u8,
+        length,
+        kernel: Region { begin, end },
+        count: (count & 0xff) as u8,
         domains,
     }
 }
@@ -62,7 +57,7 @@ pub fn marked(mut g: [[bool; MOST]; MOST], from: usize, to: usize) -> [[bool; MO
 
 // At most two marks.
 pub fn grid(case: Pieces<'_>) -> [[bool; MOST]; MOST] {
-    let pairs = Pieces::numbers(case.text(3));
+    let pairs = case.numbers(3);
     let one = marked([[false; MOST]; MOST], pairs.number(0), pairs.number(1));
     marked(one, pairs.number(2), pairs.number(3))
 }

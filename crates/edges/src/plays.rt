@@ -2,7 +2,18 @@
 use crate::after::{play_on, with_active};
 use crate::say::Said;
 use crate::table::Pieces;
+use model::call::Stop;
 use std::alloc::{AllocError, Global};
+use std::fmt;
+
+impl fmt::Display for Said<Stop> {
+    fn fmt<W: fmt::Write>(&self, f: &mut fmt::Formatter<W>) -> fmt::Result {
+        match self.0 {
+            Stop::Broken(r) => Said(r).fmt(f),
+            Stop::Refused(r) => Said(r).fmt(f),
+        }
+    }
+}
 
 // NAME: Play;ACTIVE;LENGTH;TRACE
 pub fn play(alloc: Global, case: Pieces<'_>) -> Result<String, AllocError> {
@@ -15,7 +26,7 @@ pub fn play(alloc: Global, case: Pieces<'_>) -> Result<String, AllocError> {
     )?;
     format!(in alloc;
         "{}, events {}, active {}",
-        Said(done.close),
+        Said(done.close.map(|()| "done")),
         done.events,
         done.state.active
     )

@@ -4,12 +4,20 @@ use crate::say::Said;
 use crate::table::Pieces;
 use model::map::Access;
 use std::alloc::{AllocError, Global};
+use std::fmt;
 
 fn access(word: &str) -> Access {
     match word {
         "read" => Access::Read,
         "write" => Access::Write,
         _ => Access::Fetch,
+    }
+}
+
+// The question's answer.
+impl fmt::Display for Said<bool> {
+    fn fmt<W: fmt::Write>(&self, f: &mut fmt::Formatter<W>) -> fmt::Result {
+        f.write_str(if self.0 { "yes" } else { "no" })
     }
 }
 

@@ -9,7 +9,7 @@ use std::alloc::{AllocError, Global};
 // NAME: Start;MAP;D
 pub fn start(alloc: Global, case: Pieces<'_>) -> Result<String, AllocError> {
     let started = machine::start(map(case), grid(case));
-    let verdict = Said(started.verdict);
+    let verdict = Said(started.verdict.map(|()| "accepted"));
     match case.number(4) {
         0 => format!(in alloc; "{verdict}, active {}", started.state.active),
         d => format!(in alloc; "{verdict}{}", DomainOf(started.state, d)),

@@ -16,9 +16,10 @@ impl<'a> Pieces<'a> {
         }
     }
 
-    pub fn numbers(field: &'a str) -> Self {
+    // Field k's numbers.
+    pub fn numbers(self, k: usize) -> Self {
         Pieces {
-            text: field,
+            text: self.text(k),
             between: ' ',
         }
     }

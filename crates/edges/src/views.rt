@@ -16,7 +16,7 @@ pub fn view(alloc: Global, case: Pieces<'_>) -> Result<String, AllocError> {
     memory[159] = 4;
     let lent = memory.get(..case.number(5)).unwrap_or_default();
     let own = machine::view(m, g, lent, d);
-    let verdict = Said(machine::view_verdict(m, g, lent, d));
+    let verdict = Said(machine::view_verdict(m, g, lent, d).map(|()| "accepted"));
     let mut told = format!(in alloc; "{verdict}, bytes {}", own.len())?;
     if let (Some(first), Some(last)) = (own.first(), own.last()) {
         write!(told, ", first {first}, last {last}")?;

@@ -7,7 +7,14 @@ use crate::say::Said;
 use crate::table::Pieces;
 use model::MOST;
 use std::alloc::{AllocError, Global};
-use std::fmt::Write;
+use std::fmt::{self, Write};
+
+// How many bytes a sheet's writer set.
+impl fmt::Display for Said<usize> {
+    fn fmt<W: fmt::Write>(&self, f: &mut fmt::Formatter<W>) -> fmt::Result {
+        write!(f, "wrote {}", self.0)
+    }
+}
 
 // A buffer of LENGTH bytes, each 255 before, in front of more of them.
 // NAME: Write;MAP;LENGTH
@@ -45,13 +52,13 @@ pub fn read(alloc: Global, case: Pieces<'_>) -> Result<String, AllocError> {
     let first = m.domains[0];
     let mut told = format!(in alloc;
         "{}, length {}, count {}, entry {}, marks",
-        Said(got.reading),
+        Said(got.reading.map(|()| "whole")),
         m.length,
         m.count,
         first.entry
     )?;
     for mark in [g[0][0], g[0][1], g[1][0], g[7][7]] {
-        told.push_str(if mark { " yes" } else { " no" })?;
+        write!(told, " {}", Said(mark))?;
     }
     Ok(told)
 }

@@ -1,17 +1,15 @@
 -- An answer as five words: kind, domain, reason, the reason's number.
 -- Assumes nothing.
 use Rattle.std.specs.Prelude.{ℕ, List, [], ◌∷◌}
-use Rattle.model.specs.States.{reason_number}
 use Rattle.model.specs.declared.state.Reason.{Reason}
 use Rattle.model.specs.declared.event.Answer.{Answer}
-use Rattle.export.specs.Words.{low, high}
-use Rattle.export.specs.StateWords.{reason_word}
+use Rattle.export.specs.StateWords.{reason_words}
 
 abbrev pub plain : ℕ → ℕ → List ℕ
 plain kind d = kind ∷ d ∷ 0 ∷ 0 ∷ 0 ∷ []
 
 abbrev pub faulted : ℕ → Reason → List ℕ
-faulted d r = 4 ∷ d ∷ reason_word r ∷ low (reason_number r) ∷ high (reason_number r) ∷ []
+faulted d r = 4 ∷ d ∷ reason_words r
 
 unfoldable pub answer_words : Answer → List ℕ
 answer_words Answer.Idle = plain 0 0

@@ -1,12 +1,12 @@
 -- The exported functions: each is the call on the map, the grid and the state that the lent words are, and reports what it returned.
 -- Assumes nothing.
-use Rattle.std.specs.Prelude.{ℕ, List, length}
+use Rattle.std.specs.Prelude.{ℕ, List, length, Ok, Err}
 use Rattle.model.specs.Map.{Grid, domain}
 use Rattle.model.specs.Refusals.{refusal_number}
 use Rattle.model.specs.Calls.{Left, left, lent_verdict, view, question, reader, writer, starter, stepper, player, batcher}
 use Rattle.model.specs.declared.map.Access.{Access}
 use Rattle.model.specs.declared.event.Event.{Event}
-use Rattle.model.specs.declared.call.Verdict.{Verdict}
+use Rattle.model.specs.Answers.{Verdict}
 use Rattle.model.specs.declared.call.Sheet.{Sheet}
 use Rattle.export.specs.MapWords.{map_of, map_words, grid_of, grid_bytes}
 use Rattle.export.specs.StateWords.{state_of}
@@ -37,8 +37,8 @@ unfoldable pub c_may : List ℕ → List ℕ → ℕ → Access → ℕ → ℕ 
 c_may map grid d k a granted = permission_report granted (question (map_of map) (grid_of grid) d k a)
 
 abbrev pub view_report : ℕ → ℕ → Verdict → Viewed
-view_report b l Verdict.Accepted = viewed 0 b l
-view_report b l (Verdict.Refused r) = viewed (refusal_number r) 0 0
+view_report b l (Ok tt) = viewed 0 b l
+view_report b l (Err r) = viewed (refusal_number r) 0 0
 
 unfoldable pub c_view : List ℕ → List ℕ → List ℕ → ℕ → Viewed
 c_view map grid memory d =

@@ -1,6 +1,6 @@
 -- Laws of Exports, for code that made the call on what the lent words are and then its report.
 -- Assumes nothing.
-use Rattle.std.specs.Prelude.{ℕ, ◌≡◌, List, length}
+use Rattle.std.specs.Prelude.{ℕ, ◌≡◌, List, length, Ok, Err}
 use Rattle.std.proofs.Math.Path.{sym, ap}
 use Rattle.std.proofs.Common.{◌∙◌}
 use Rattle.model.specs.Map.{Grid, domain}
@@ -11,10 +11,8 @@ use Rattle.model.specs.declared.map.Access.{Access}
 use Rattle.model.specs.declared.state.State.{State}
 use Rattle.model.specs.declared.event.Event.{Event}
 use Rattle.model.specs.declared.refusal.Refusal.{Refusal}
-use Rattle.model.specs.declared.call.Verdict.{Verdict}
-use Rattle.model.specs.declared.call.Permission.{Permission}
+use Rattle.model.specs.Answers.{Verdict, Permission, Writing}
 use Rattle.model.specs.declared.call.Sheet.{Sheet}
-use Rattle.model.specs.declared.call.Writing.{Writing}
 use Rattle.model.specs.declared.call.Started.{Started}
 use Rattle.model.specs.declared.call.Stepped.{Stepped}
 use Rattle.model.specs.declared.call.Played.{Played}
@@ -54,13 +52,13 @@ module _ (map grid : List ℕ) {m : Map} {g : Grid} (M : m ≡ map_of map) (G : 
 
   module _ (memory : List ℕ) (d : ℕ) {v : Verdict} (U : v ≡ lent_verdict m g memory d) where
     pub view_refused :
-        {r : Refusal} {n : ℕ} → v ≡ Verdict.Refused r → n ≡ refusal_number r
+        {r : Refusal} {n : ℕ} → v ≡ Err r → n ≡ refusal_number r
         → viewed n 0 0 ≡ c_view map grid memory d
     unfolding c_view
     view_refused e N = rw (N, ← M, ← G, sym U ∙ e)
 
     pub view_done :
-        {part : List ℕ} → v ≡ Verdict.Accepted → part ≡ view m g memory d
+        {part : List ℕ} → v ≡ Ok tt → part ≡ view m g memory d
         → viewed 0 (domain m d).«data».begin (length part) ≡ c_view map grid memory d
     unfolding c_view
     view_done e P = rw (P, ← M, ← G, sym U ∙ e)

@@ -12,7 +12,7 @@ use Rattle.model.specs.Calls.{Left, left}
 use Rattle.model.specs.declared.map.Access.{Access}
 use Rattle.model.specs.declared.event.Event.{Event}
 use Rattle.model.specs.declared.refusal.Refusal.{Refusal}
-use Rattle.promises.specs.Public.{Call, Result as Returned, value, coincide}
+use Rattle.promises.specs.Public.{Call, Returned, value, coincide}
 use Rattle.promises.specs.Tests.{Ruling}
 use Rattle.promises.specs.Refused.{says, refusing as refused_call}
 use Rattle.promises.proofs.Refused.{unchanged}

@@ -8,8 +8,8 @@ use Rattle.model.specs.GridLaws.{Square}
 use Rattle.model.specs.declared.map.Domain.{Domain}
 use Rattle.model.specs.declared.map.Map.{Map}
 use Rattle.export.specs.Words.{flag, eight}
+use Rattle.export.specs.WordsLaws.{eight_again, eight_same}
 use Rattle.export.specs.MapWords.{capped, map_of, map_words, grid_of, grid_bytes}
-use Rattle.export.specs.StateTrips.{eight_again, eight_same}
 
 abbrev with_parts : Map → ℕ → List Domain → Map
 with_parts m n ds = record { length = m.length; kernel = m.kernel; count = n; domains = ds }

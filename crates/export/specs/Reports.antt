@@ -2,39 +2,37 @@
 -- gives back state, map and grid as they came, with counts 0"; a refused start and a refused reading give the state, the map and the grid
 -- that the calls give.
 -- Assumes nothing.
-use Rattle.std.specs.Prelude.{ℕ, List}
+use Rattle.std.specs.Prelude.{ℕ, List, Result, Ok, Err}
 use Rattle.model.specs.Refusals.{refusal_number, verdict_number}
 use Rattle.model.specs.Calls.{Left, left}
 use Rattle.model.specs.declared.state.State.{State}
-use Rattle.model.specs.declared.call.Permission.{Permission}
-use Rattle.model.specs.declared.call.Reading.{Reading}
-use Rattle.model.specs.declared.call.Writing.{Writing}
+use Rattle.model.specs.declared.refusal.Refusal.{Refusal}
+use Rattle.model.specs.declared.call.Stop.{Stop}
+use Rattle.model.specs.Answers.{Permission, Reading, Writing, Reply, Close}
 use Rattle.model.specs.declared.call.Started.{Started}
-use Rattle.model.specs.declared.call.Reply.{Reply}
 use Rattle.model.specs.declared.call.Stepped.{Stepped}
-use Rattle.model.specs.declared.call.Close.{Close}
 use Rattle.model.specs.declared.call.Played.{Played}
 use Rattle.model.specs.declared.call.Ending.{Ending}
 use Rattle.model.specs.declared.call.Batched.{Batched}
+use Rattle.export.specs.Words.{flag}
 use Rattle.export.specs.StateWords.{packed}
 use Rattle.export.specs.AnswerWords.{answer_words}
 
 -- ---- the sheet
 
 abbrev pub reading_report : Reading → Left ℕ ℕ
-reading_report Reading.Whole = left 0 0
-reading_report (Reading.Refused r at) = left (refusal_number r) at
+reading_report (Ok tt) = left 0 0
+reading_report (Err f) = left (refusal_number f.refusal) f.at
 
 abbrev pub writing_report : Writing → Left ℕ ℕ
-writing_report (Writing.Wrote n) = left 0 n
-writing_report (Writing.Refused r) = left (refusal_number r) 0
+writing_report (Ok n) = left 0 n
+writing_report (Err r) = left (refusal_number r) 0
 
 -- ---- the question and the view
 
 abbrev pub permission_report : ℕ → Permission → Left ℕ ℕ
-permission_report granted Permission.Yes = left 0 1
-permission_report granted Permission.No = left 0 0
-permission_report granted (Permission.Refused r) = left (refusal_number r) granted
+permission_report granted (Ok b) = left 0 (flag b)
+permission_report granted (Err r) = left (refusal_number r) granted
 
 pub record Viewed : Type 0 where
   pub number : ℕ
@@ -58,8 +56,8 @@ abbrev pub told : ℕ → List ℕ → List ℕ → Told
 told n s a = record { number = n; state = s; answer = a }
 
 abbrev pub reply_report : List ℕ → List ℕ → State → Reply → Told
-reply_report state answer s (Reply.Answered a) = told 0 (packed s) (answer_words a)
-reply_report state answer s (Reply.Refused r) = told (refusal_number r) state answer
+reply_report state answer s (Ok a) = told 0 (packed s) (answer_words a)
+reply_report state answer s (Err r) = told (refusal_number r) state answer
 
 abbrev pub stepped_report : List ℕ → List ℕ → Stepped → Told
 stepped_report state answer x = reply_report state answer x.state x.reply
@@ -75,9 +73,9 @@ counted n s e at = record { number = n; state = s; events = e; at = at }
 
 -- "Playing a trace stops at its first broken record with 11 or 12, its offset and the events done": these stand
 abbrev pub close_report : List ℕ → State → ℕ → Close → Counted
-close_report state s n Close.Done = counted 0 (packed s) n 0
-close_report state s n (Close.Broken r offset) = counted (refusal_number r) (packed s) n offset
-close_report state s n (Close.Refused r) = counted (refusal_number r) state 0 0
+close_report state s n (Ok tt) = counted 0 (packed s) n 0
+close_report state s n (Err (Stop.Broken f)) = counted (refusal_number f.refusal) (packed s) n f.at
+close_report state s n (Err (Stop.Refused r)) = counted (refusal_number r) state 0 0
 
 abbrev pub played_report : List ℕ → Played → Counted
 played_report state x = close_report state x.state x.events x.close
@@ -90,10 +88,9 @@ pub record Spent : Type 0 where
 abbrev pub spent : ℕ → List ℕ → ℕ → Spent
 spent n s k = record { number = n; state = s; steps = k }
 
-abbrev pub ending_report : List ℕ → State → ℕ → Ending → Spent
-ending_report state s n Ending.Spent = spent 0 (packed s) n
-ending_report state s n Ending.Idle = spent 0 (packed s) n
-ending_report state s n (Ending.Refused r) = spent (refusal_number r) state 0
+abbrev pub ending_report : List ℕ → State → ℕ → Result Ending Refusal → Spent
+ending_report state s n (Ok x) = spent 0 (packed s) n
+ending_report state s n (Err r) = spent (refusal_number r) state 0
 
 abbrev pub batched_report : List ℕ → Batched → Spent
 batched_report state x = ending_report state x.state x.steps x.ending

@@ -1,7 +1,7 @@
 -- What one call writes, the next one reads: a state of eight contexts of eight registers, with its numbers in their ranges, is read
 -- back from its words as it was.
 -- Assumes nothing.
-use Rattle.std.specs.Prelude.{ℕ, zero, suc, ◌%◌, ◌^◌, ◌<◌, ◌≡◌, refl, Bool, true, false, List, [], ◌∷◌, eqb, length, get_or}
+use Rattle.std.specs.Prelude.{ℕ, zero, suc, ◌%◌, ◌^◌, ◌<◌, ◌≡◌, refl, Bool, true, false, List, eqb, length, get_or}
 use Rattle.std.proofs.Common.{ap, ◌∙◌, arith, eq-eqb}
 use Rattle.model.specs.States.{register, missing}
 use Rattle.model.specs.declared.state.Reason.{Reason}
@@ -10,6 +10,7 @@ use Rattle.model.specs.declared.state.Mailbox.{Mailbox}
 use Rattle.model.specs.declared.state.Context.{Context}
 use Rattle.model.specs.declared.state.State.{State}
 use Rattle.export.specs.Words.{alike, low, high, joined, flag, eight}
+use Rattle.export.specs.WordsLaws.{eight_again, eight_same}
 use Rattle.export.specs.StateWords.{status_word, status_number, status_by, status_of, context_words, unpacked, packed, state_of}
 
 -- ---- the ranges that the types give
@@ -60,18 +61,6 @@ flag_again false = refl
 small : (n : ℕ) → n < 256 → n % 256 ≡ n
 small n h = omega arith
 
-pub eight_again : {A : Type 0} (xs : List A) (d : A) → length xs ≡ 8 → eight (λ i. get_or xs i d) ≡ xs
-eight_again (a ∷ b ∷ c ∷ d ∷ e ∷ f ∷ g ∷ h ∷ []) z l = refl
-eight_again [] z l = absurd (omega arith)
-eight_again (a ∷ []) z l = absurd (omega arith)
-eight_again (a ∷ b ∷ []) z l = absurd (omega arith)
-eight_again (a ∷ b ∷ c ∷ []) z l = absurd (omega arith)
-eight_again (a ∷ b ∷ c ∷ d ∷ []) z l = absurd (omega arith)
-eight_again (a ∷ b ∷ c ∷ d ∷ e ∷ []) z l = absurd (omega arith)
-eight_again (a ∷ b ∷ c ∷ d ∷ e ∷ f ∷ []) z l = absurd (omega arith)
-eight_again (a ∷ b ∷ c ∷ d ∷ e ∷ f ∷ g ∷ []) z l = absurd (omega arith)
-eight_again (a ∷ b ∷ c ∷ d ∷ e ∷ f ∷ g ∷ h ∷ i ∷ r) z l = absurd (omega arith)
-
 abbrev box_again : Mailbox → Mailbox
 box_again b = record { full = eqb (flag b.full) 1; word = b.word; sender = b.sender % 256 }
 
@@ -109,19 +98,6 @@ alike_self : (xs : List ℕ) (n : ℕ) → alike xs xs n ≡ true
 unfolding alike
 alike_self xs zero = refl
 alike_self xs (suc n) = rw (eq-eqb (get_or xs n 0) (get_or xs n 0) refl) (alike_self xs n)
-
-pub eight_same : {A : Type 0} (f g : ℕ → A) → ((i : ℕ) → i < 8 → f i ≡ g i) → eight f ≡ eight g
-eight_same f g e =
-    rw (
-      e 0 (omega arith),
-      e 1 (omega arith),
-      e 2 (omega arith),
-      e 3 (omega arith),
-      e 4 (omega arith),
-      e 5 (omega arith),
-      e 6 (omega arith),
-      e 7 (omega arith),
-    )
 
 module _ (s : State) (a : s.active < 256) (l : length s.contexts ≡ 8)
     (f : (i : ℕ) → i < 8 → Fits (get_or s.contexts i missing)) where

@@ -31,6 +31,12 @@ status_number Status.Ready = 0
 status_number Status.Waiting = 0
 status_number (Status.Faulted r) = reason_number r
 
+abbrev pub reason_words : Reason → List ℕ
+reason_words r = reason_word r ∷ low (reason_number r) ∷ high (reason_number r) ∷ []
+
+abbrev pub status_words : Status → List ℕ
+status_words s = status_word s ∷ low (status_number s) ∷ high (status_number s) ∷ []
+
 abbrev pub statuses : ℕ → ℕ → List Status
 statuses a b =
     Status.Halted ∷ Status.Ready ∷ Status.Waiting ∷ Status.Faulted (Reason.Fetch a) ∷ Status.Faulted (Reason.Read a)

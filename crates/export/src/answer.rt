@@ -1,23 +1,22 @@
-// An answer as five words: kind, domain, reason, the reason's number.
+// An answer as five words: kind, domain, reason, the reason's number. include/arcovinda.h fixes the kinds.
 ghost use Rattle.std.specs.Prelude.{◌≡◌};
 ghost use Rattle.export.specs.AnswerWords.{plain, faulted, answer_words};
 
-use crate::reason::{reason_number, reason_word};
-use crate::words::{high, low};
+use crate::reason::reason_words;
 use model::event::Answer;
 use model::state::Reason;
 
 fn plain(kind: u32, d: u8) -> [u32; 5]
     ensures { result ≡ plain kind d }
 {
-    [kind, d as u32, 0, 0, 0]
+    [kind, u32::from(d), 0, 0, 0]
 }
 
 fn faulted(d: u8, r: Reason) -> [u32; 5]
     ensures { result ≡ faulted d r }
 {
-    let n = reason_number(r);
-    [4, d as u32, reason_word(r), low(n), high(n)]
+    let [reason, low, high] = reason_words(r);
+    [4, u32::from(d), reason, low, high]
 }
 
 pub fn answer_words(a: Answer) -> [u32; 5]

@@ -6,7 +6,6 @@
 mod answer;
 mod context;
 mod grid;
-mod lay;
 mod map;
 mod reason;
 mod refusal;
@@ -31,7 +30,6 @@ use crate::report::{
 use crate::state::state_of;
 use lines::number::refusal_number;
 use model::MOST;
-use model::call::Verdict;
 use model::event::Event;
 use model::map::Access;
 
@@ -41,19 +39,17 @@ pub fn arcovinda_read(sheet: &[u8], map: &mut [u32; 44], grid: &mut [u8; 64], at
 {
     let mut g = [[false; MOST]; MOST];
     let found = sheet::read(sheet, &mut g);
-    let m = found.map;
-    let reading = found.reading;
-    *map = map_words(m);
+    *map = map_words(found.map);
     *grid = grid_bytes(g);
-    report_reading(reading, at)
+    report_reading(found.reading, at)
 }
 
 pub fn arcovinda_write(map: &[u32; 44], grid: &[u8; 64], buffer: &mut [u8], wrote: &mut u64) -> u32
     ensures { left (left result wrote.new) buffer.new
         ≡ c_write map.now grid.now buffer.old }
 {
-    let m = map_of(&map[..]);
-    let g = grid_of(&grid[..]);
+    let m = map_of(map);
+    let g = grid_of(grid);
     let writing = sheet::write(m, g, buffer);
     report_writing(writing, wrote)
 }
@@ -69,8 +65,8 @@ fn may(
     ensures { left result granted.new
         ≡ c_may map.now grid.now domain k address granted.old }
 {
-    let m = map_of(&map[..]);
-    let g = grid_of(&grid[..]);
+    let m = map_of(map);
+    let g = grid_of(grid);
     let permission = rights::question(m, g, domain, k, address);
     report_permission(permission, granted)
 }
@@ -125,22 +121,18 @@ pub fn arcovinda_view(
     ensures { viewed result begin.new length.new
         ≡ c_view map.now grid.now memory.now domain }
 {
-    let m = map_of(&map[..]);
-    let g = grid_of(&grid[..]);
-    let verdict = machine::view_verdict(m, g, memory, domain);
-    match verdict {
-        Verdict::Refused(r) => {
+    let m = map_of(map);
+    let g = grid_of(grid);
+    match machine::view_verdict(m, g, memory, domain) {
+        Ok(()) => {
+            *begin = u64::from(m.domains[usize::from(domain) - 1].data.begin);
+            *length = machine::view(m, g, memory, domain).len() as u64;
+            0
+        }
+        Err(r) => {
             *begin = 0;
             *length = 0;
             refusal_number(r)
-        }
-        Verdict::Accepted => {
-            let part = machine::view(m, g, memory, domain);
-            let own = m.domains[(domain as usize) - 1];
-            let data = own.data;
-            *begin = data.begin as u64;
-            *length = part.len() as u64;
-            0
         }
     }
 }
@@ -148,8 +140,8 @@ pub fn arcovinda_view(
 pub fn arcovinda_start(map: &[u32; 44], grid: &[u8; 64], state: &mut [u32; 121]) -> u32
     ensures { left result state.new ≡ c_start map.now grid.now }
 {
-    let m = map_of(&map[..]);
-    let g = grid_of(&grid[..]);
+    let m = map_of(map);
+    let g = grid_of(grid);
     let started = machine::start(m, g);
     report_started(started, state)
 }
@@ -165,9 +157,9 @@ fn happen(
     ensures { left (told result state.new answer.new) memory.new
         ≡ c_event map.now grid.now state.old memory.old answer.old e }
 {
-    let m = map_of(&map[..]);
-    let g = grid_of(&grid[..]);
-    let s = state_of(&state[..]);
+    let m = map_of(map);
+    let g = grid_of(grid);
+    let s = state_of(state);
     let stepped = machine::event(m, g, s, memory, e);
     report_stepped(stepped, state, answer)
 }
@@ -232,9 +224,9 @@ pub fn arcovinda_play(
     ensures { left (counted result state.new events.new at.new) memory.new
         ≡ c_play map.now grid.now state.old memory.old trace.now }
 {
-    let m = map_of(&map[..]);
-    let g = grid_of(&grid[..]);
-    let s = state_of(&state[..]);
+    let m = map_of(map);
+    let g = grid_of(grid);
+    let s = state_of(state);
     let played = machine::play(m, g, s, memory, trace);
     report_played(played, state, events, at)
 }
@@ -250,9 +242,9 @@ pub fn arcovinda_batch(
     ensures { left (spent result state.new steps.new) memory.new
         ≡ c_batch map.now grid.now state.old memory.old limit }
 {
-    let m = map_of(&map[..]);
-    let g = grid_of(&grid[..]);
-    let s = state_of(&state[..]);
+    let m = map_of(map);
+    let g = grid_of(grid);
+    let s = state_of(state);
     let batched = machine::batch(m, g, s, memory, limit);
     report_batched(batched, state, steps)
 }

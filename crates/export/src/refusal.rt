@@ -9,7 +9,7 @@ pub fn verdict_number(v: Verdict) -> u32
     ensures { result ≡ verdict_number v }
 {
     match v {
-        Verdict::Accepted => 0,
-        Verdict::Refused(r) => refusal_number(r),
+        Ok(()) => 0,
+        Err(r) => refusal_number(r),
     }
 }

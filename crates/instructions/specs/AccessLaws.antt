@@ -1,55 +1,34 @@
--- One turn of the search for the lowest denied address, in the code's numbers, and the exits of a load and of a store.
+-- The lowest denied address, as the code finds it.
 -- Assumes nothing.
-use Rattle.std.specs.Prelude.{◌≡◌, ℕ, zero, suc, ◌+◌, ◌-◌, ◌<◌, Bool, true, false, List, length, slice_set, refl}
-use Rattle.std.proofs.Common.{sym, arith}
-use Rattle.std.proofs.Math.Option.{some}
-use Rattle.std.proofs.lemmas.List.Edits.{sets}
-use Rattle.model.proofs.LoopLaws.{back}
-use Rattle.model.specs.Map.{may, lowest}
-use Rattle.model.specs.Instructions.{peek, carry}
-use Rattle.model.specs.declared.map.Access.{Access}
-use Rattle.model.specs.declared.map.Domain.{Domain}
-use Rattle.model.specs.declared.state.Reason.{Reason}
+use Rattle.std.specs.Prelude.{◌≡◌, ℕ, zero, suc, ◌+◌, ◌-◌, ◌<◌, ◌≤◌, Bool, true, false, Option as Found, None, Some, MatchOption, nat_lt, refl}
+use Rattle.std.proofs.Common.{sym, arith, ltb-true, ltb-false}
+use Rattle.std.proofs.Math.Option.{none, some}
+use Rattle.model.proofs.BasicsLaws.{by_bool}
+use Rattle.model.specs.Map.{lowest}
 use Rattle.instructions.specs.Told.{lowest_of}
-use Rattle.instructions.specs.Loaded.{Loads, Stores}
-use Rattle.instructions.specs.declared.access.Denied.{Denied}
-use Rattle.instructions.specs.declared.went.Went.{Went}
 
 module _ (allowed : ℕ → Bool) where
-  -- where the first is allowed, the search goes on
-  pub lowest_on : (a n : ℕ) → 0 < n → allowed a ≡ true → lowest allowed a n ≡ lowest allowed (a + 1) (n - 1)
+  abbrev Allowed : ℕ → ℕ → Type 0
+  Allowed a past = (k : ℕ) → a ≤ k → k < past → allowed k ≡ true
+
+  pub none_denied : (a n : ℕ) → Allowed a (a + n) → lowest allowed a n ≡ none
   unfolding lowest
-  lowest_on a zero h e = absurd (omega arith)
-  lowest_on a (suc n) h e = rw (e, back n)
+  none_denied a zero h = refl
+  none_denied a (suc n) h =
+      rw (h a (omega arith) (omega arith)) (none_denied (a + 1) n (λ k l m. h k (omega arith) (omega arith)))
 
-  -- where it is denied, it is the lowest
-  pub lowest_here : (a n : ℕ) → 0 < n → allowed a ≡ false → lowest allowed a n ≡ some a
+  pub first_denied : (a n i : ℕ) → a ≤ i → i < a + n → allowed i ≡ false → Allowed a i → lowest allowed a n ≡ some i
   unfolding lowest
-  lowest_here a zero h e = absurd (omega arith)
-  lowest_here a (suc n) h e = rw e
+  first_denied a zero i l m e h = absurd (omega arith)
+  first_denied a (suc n) i l m e h =
+      by_bool (nat_lt a i)
+      (λ t. rw (h a (omega arith) (ltb-true a i t))
+      (first_denied (a + 1) n i (omega (arith, ltb-true a i t)) (omega arith) e (λ k l m. h k (omega arith) m)))
+      (λ t. let here : a ≡ i = omega (arith, ltb-false a i t) in rw (here, e))
 
--- a load whose search found d
-module _
-    (own : Domain) (a n r next : ℕ) (f : List ℕ → ℕ) (rs memory : List ℕ) {d : Denied}
-    (e : lowest_of d ≡ lowest (may own Access.Read) a n) where
-  pub loads_denied : {x : ℕ} → d ≡ Denied.At x → Loads own a n f r next rs memory (Went.Faults (Reason.Read x)) rs
-  unfolding carry
-  loads_denied i = λ count counter row. ((λ status b. rw (sym e, i)), refl)
-
-  pub loads_allowed :
-      {v : ℕ} {rs' : List ℕ} {x : Went} → d ≡ Denied.Nowhere → v ≡ f (peek memory a n) → (x ≡ Went.Moved next) × (rs' ≡ slice_set rs r v)
-      → Loads own a n f r next rs memory x rs'
-  unfolding carry
-  loads_allowed i j k = λ count counter row. rw (k.0, k.1) ((λ status b. rw (sym e, i, j)), tt)
-
--- a store whose search found d
-module _
-    (own : Domain) (a next : ℕ) (bs memory : List ℕ) {d : Denied} (e : lowest_of d ≡ lowest (may own Access.Write) a (length bs)) where
-  pub stores_denied : {x : ℕ} → d ≡ Denied.At x → Stores own a bs next memory (Went.Faults (Reason.Write x)) memory
-  unfolding carry
-  stores_denied i = λ count counter row rs. ((λ status b. rw (sym e, i)), refl)
-
-  pub stores_allowed :
-      {memory' : List ℕ} → d ≡ Denied.Nowhere → memory' ≡ sets memory a bs → Stores own a bs next memory (Went.Moved next) memory'
-  unfolding carry
-  stores_allowed i k = λ count counter row rs. ((λ status b. rw (sym e, i, k)), tt)
+  pub lowest_found :
+      (a past : ℕ) (r : Found ℕ)
+      → MatchOption r (Allowed a past) (λ i. (a ≤ i) × (i < past) × (allowed i ≡ false) × Allowed a i)
+      → lowest_of r ≡ lowest allowed a (past - a)
+  lowest_found a past None h = sym (none_denied a (past - a) (λ k l m. h k l (omega arith)))
+  lowest_found a past (Some i) h = sym (first_denied a (past - a) i h.0 (omega (arith, h.0, h.1)) h.2 h.3)

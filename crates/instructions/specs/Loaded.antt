@@ -1,22 +1,18 @@
--- What a load and a store say, whatever the count and the row of the grid.
+-- What a load gives, and what a store gives and leaves, by the access rule.
 -- Assumes nothing.
-use Rattle.std.specs.Prelude.{ℕ, Bool, List}
-use Rattle.model.specs.States.{set_register, with_counter}
-use Rattle.model.specs.Instructions.{Deed, Plan}
+use Rattle.std.specs.Prelude.{ℕ, List, length, Result, Ok, Err, ⊤}
+use Rattle.std.proofs.lemmas.List.Edits.{sets}
+use Rattle.model.specs.Basics.{unless}
+use Rattle.model.specs.Map.{may, lowest}
+use Rattle.model.specs.Instructions.{peek}
 use Rattle.model.specs.declared.map.Access.{Access}
 use Rattle.model.specs.declared.map.Domain.{Domain}
-use Rattle.instructions.specs.Told.{held, Tells}
-use Rattle.instructions.specs.declared.went.Went.{Went}
+use Rattle.model.specs.declared.state.Reason.{Reason}
 
--- r becomes what f makes of the n bytes from a
-abbrev pub Loads : Domain → ℕ → ℕ → (List ℕ → ℕ) → ℕ → ℕ → List ℕ → List ℕ → Went → List ℕ → Type 0
-Loads own a n f r next rs memory x rs' =
-    (count counter : ℕ) (row : List Bool)
-    → Tells (held own count row)
-    (λ c. Plan.ask Access.Read a n (λ got. Plan.end (Deed.runs (set_register (with_counter c next) r (f got)))))
-    rs counter memory x rs' memory
+-- the n bytes from a, or the lowest of them that is denied
+abbrev pub load : Domain → ℕ → ℕ → List ℕ → Result (List ℕ) Reason
+load own a n memory = unless (lowest (may own Access.Read) a n) (λ x. Err (Reason.Read x)) (Ok (peek memory a n))
 
-abbrev pub Stores : Domain → ℕ → List ℕ → ℕ → List ℕ → Went → List ℕ → Type 0
-Stores own a bs next memory x memory' =
-    (count counter : ℕ) (row : List Bool) (rs : List ℕ)
-    → Tells (held own count row) (λ c. Plan.store a bs (with_counter c next)) rs counter memory x rs memory'
+abbrev pub store : Domain → ℕ → List ℕ → List ℕ → Result ⊤ Reason × List ℕ
+store own a bs memory =
+    unless (lowest (may own Access.Write) a (length bs)) (λ x. (Err (Reason.Write x), memory)) (Ok tt, sets memory a bs)

@@ -1,26 +1,29 @@
 -- "fetch of the kind byte, kind above 19, fetch of the body, registers above 7 in body order, then access or channel": what the plan
--- of an instruction comes to where each of these fails, and where none does. The code fetches by comparing with the end of the code.
+-- of an instruction comes to, by the tests that the code makes. It fetches by comparing with the end of the code.
+--     fetch_past, checked_above, body_five   the fetch of a body, its registers, and the five bytes that are read for it
+--     plan_told                              an instruction whose kind byte is fetched
 -- Assumes nothing.
-use Rattle.std.specs.Prelude.{◌≡◌, ℕ, zero, suc, ◌+◌, ◌-◌, ◌<◌, ◌≤◌, Bool, true, false, leb, List, [], ◌∷◌, nat_le, nat_lt, slice_index, refl, if◌then◌else◌}
-use Rattle.std.proofs.Common.{sym, ap, subst, ◌∙◌, arith}
+use Rattle.std.specs.Prelude.{◌≡◌, Option as Found, ℕ, ◌+◌, ◌-◌, ◌<◌, ◌≤◌, Bool, true, false, List, [], ◌∷◌, None, Some, nat_le, nat_lt, slice_index, refl, if◌then◌else◌}
+use Rattle.std.proofs.Common.{sym, ap, ◌∙◌, arith}
 use Rattle.std.proofs.Math.Option.{some}
 use Rattle.std.proofs.Math.ListN.{get_or-map}
-use borrow.Author.Tests.{ltb-true, ltb-false, le-leb, lt-leb}
+use Rattle.std.specs.List.{find}
+use borrow.Author.Tests.{le-leb, le-ltb, lt-ltb, leb-true, leb-false}
 use Rattle.model.proofs.BasicsLaws.{by_bool}
+use Rattle.model.specs.Basics.{unless}
 use Rattle.model.specs.Map.{inside, may, lowest}
 use Rattle.model.proofs.MapLaws.{inside_from, inside_below}
 use Rattle.model.specs.Table.{Body, size, registers_of, Row, table, row_of, decoded}
 use Rattle.model.specs.States.{with_counter}
-use Rattle.model.specs.Instructions.{Deed, Plan, byte_r, byte_s, work, checked, worked, decode, plan, peek, kept, carry}
+use Rattle.model.specs.Instructions.{Deed, Plan, work, Done, checked, worked, decode, plan, peek, kept, carry}
 use Rattle.model.specs.declared.map.Access.{Access}
 use Rattle.model.specs.declared.map.Domain.{Domain}
 use Rattle.model.specs.declared.state.Reason.{Reason}
 use Rattle.model.specs.declared.state.Context.{Context}
 use Rattle.model.specs.declared.instruction.Decoded.{Decoded}
+use Rattle.instructions.specs.AccessLaws.{first_denied}
 use Rattle.instructions.specs.Home.{home_all}
-use Rattle.instructions.specs.Suspect.{first_named, second_named, if_named, first_bad, suspect}
-use Rattle.instructions.specs.Told.{held, seen, Tells, Works}
-use Rattle.instructions.specs.declared.went.Went.{Went}
+use Rattle.instructions.specs.Told.{held, lowest_of}
 
 -- ---- the fetch: bytes that start in the code, or at its end
 
@@ -28,36 +31,26 @@ module _ (own : Domain) where
   pub fetch_past :
       (a n : ℕ) → own.code.begin ≤ a → a ≤ own.code.end → own.code.end < a + n
       → lowest (may own Access.Fetch) a n ≡ some own.code.end
-  unfolding lowest may
-  fetch_past a zero l h p = absurd (omega arith)
-  fetch_past a (suc n) l h p =
-      by_bool (nat_lt a own.code.end)
-      (λ t. rw (le-leb own.code.begin a l, t)
-      (fetch_past (a + 1) n (omega arith) (omega (arith, ltb-true a own.code.end t)) (omega arith)))
-      (λ t. let e : a ≡ own.code.end = omega (arith, ltb-false a own.code.end t) in
-      rw (le-leb own.code.begin a l, t, e))
+  unfolding may
+  fetch_past a n l h p =
+      first_denied (may own Access.Fetch) a n own.code.end h p
+      (rw (le-leb own.code.begin own.code.end (omega arith), le-ltb own.code.end own.code.end (omega arith)))
+      (λ k from below. rw (le-leb own.code.begin k (omega arith), lt-ltb k own.code.end below))
 
 -- ---- registers
 
-one_named :
-    (r : ℕ) (p : Plan) → checked (r ∷ []) p
-    ≡ (if leb (first_bad r 0) 7 then p else Plan.end (Deed.faults (Reason.Register (first_bad r 0))))
-unfolding checked
-one_named r p = by_bool (nat_le r 7) (λ e. rw e) (λ e. rw (e, e))
+-- the first of them above 7
+abbrev pub above : List ℕ → Found ℕ
+above rs = find (λ r. nat_lt 7 r) rs
 
-checked_suspect :
-    (f : Body) (b : List ℕ) (p : Plan)
-    → checked (registers_of f b) p
-    ≡ (if leb (suspect f b) 7 then p else Plan.end (Deed.faults (Reason.Register (suspect f b))))
+checked_above :
+    (rs : List ℕ) (p : Plan) → checked rs p ≡ unless (lowest_of (above rs)) (λ r. Plan.end (Deed.faults (Reason.Register r))) p
 unfolding checked
-checked_suspect Body.- b p = refl
-checked_suspect Body.r_n b p = one_named (byte_r b) p
-checked_suspect Body.r_s b p = by_bool (nat_le (byte_r b) 7) (λ e. rw e) (λ e. rw (e, e))
-checked_suspect Body.r_s_o b p = by_bool (nat_le (byte_r b) 7) (λ e. rw e) (λ e. rw (e, e))
-checked_suspect Body.a b p = refl
-checked_suspect Body.r_a b p = one_named (byte_r b) p
-checked_suspect Body.r b p = one_named (byte_r b) p
-checked_suspect Body.d_r b p = refl
+checked_above [] p = refl
+checked_above (r ∷ rs) p =
+    by_bool (nat_le r 7)
+    (λ e. let no : nat_lt 7 r ≡ false = le-ltb 7 r (leb-true r 7 e) in rw (e, no) (checked_above rs p))
+    (λ e. let yes : nat_lt 7 r ≡ true = lt-ltb 7 r (leb-false r 7 e) in rw (e, yes))
 
 -- ---- five bytes are as good as the body's own
 
@@ -73,141 +66,69 @@ body_five : (kind : ℕ) → tested size (row_of kind) ≡ tested five (row_of k
 unfolding row_of table peek work checked
 body_five kind = sym (get_or-map (tested size) table kind _) ∙ get_or-map (tested five) table kind _
 
--- ---- the exits
+-- ---- an instruction whose kind byte is fetched, by the tests that the code makes
 
-module _ (own : Domain) (count : ℕ) (row : List Bool) (memory : List ℕ) (c : Context) where
-  at_fetch :
-      inside own.code c.counter ≡ false
-      → carry (held own count row) memory (plan c) ≡ kept memory (Deed.faults (Reason.Fetch c.counter))
-  unfolding plan carry lowest may
-  at_fetch e = rw e
+module _ (own : Domain) (count : ℕ) (row : List Bool) (memory : List ℕ) (c : Context) (kind : ℕ) where
+  abbrev form : Body
+  form = (row_of kind).form
 
-  module _ (kind : ℕ) (k : kind ≡ slice_index memory c.counter) (i : inside own.code c.counter ≡ true) where
-    fetched : carry (held own count row) memory (plan c) ≡ carry (held own count row) memory (decode c kind)
+  abbrev body : List ℕ
+  body = peek memory (c.counter + 1) 5
+
+  abbrev done : Plan → Done
+  done p = carry (held own count row) memory p
+
+  abbrev fault : Reason → Done
+  fault x = kept memory (Deed.faults x)
+
+  -- a body's registers, then the effect
+  abbrev pub registers_told : Found ℕ → Plan → Done
+  registers_told None p = done p
+  registers_told (Some r) p = fault (Reason.Register r)
+
+  -- what it comes to, once it is decoded
+  abbrev pub told : Found Decoded → Done
+  told None = fault (Reason.Kind kind)
+  told (Some d) =
+      if nat_le (own.code.end - c.counter) d.length
+      then fault (Reason.Fetch own.code.end)
+      else registers_told (above (registers_of form body)) (work d.effect body c (with_counter c (c.counter + 1 + d.length)))
+
+  checked_told :
+      (o : Found ℕ) (p : Plan) → done (unless (lowest_of o) (λ r. Plan.end (Deed.faults (Reason.Register r))) p) ≡ registers_told o p
+  unfolding carry
+  checked_told None p = refl
+  checked_told (Some r) p = refl
+
+  module _ (k : kind ≡ slice_index memory c.counter) (i : inside own.code c.counter ≡ true) where
+    fetched : done (plan c) ≡ done (decode c kind)
     unfolding plan carry lowest may peek
     fetched = rw (i, k)
 
-    at_kind : 19 < kind → carry (held own count row) memory (plan c) ≡ kept memory (Deed.faults (Reason.Kind kind))
+    decoded_told : kind ≤ 19 → done (decode c kind) ≡ told (Some (decoded kind))
+    unfolding decode carry worked
+    decoded_told h =
+        let from = inside_from own.code c.counter i in
+        let below = inside_below own.code c.counter i in
+        by_bool (nat_le (own.code.end - c.counter) (size form))
+        (λ p. rw (
+          le-leb kind 19 h,
+          p,
+          fetch_past own (c.counter + 1) (size form) (omega (arith, from)) (omega (arith, below))
+              (omega (arith, below, leb-true _ _ p)),
+        ))
+        (λ p. rw (
+          le-leb kind 19 h,
+          p,
+          home_all own Access.Fetch (c.counter + 1) (size form) (omega (arith, from)) (omega (arith, leb-false _ _ p)),
+        )
+        (ap (λ t. done (t memory (c.counter + 1) c (with_counter c (c.counter + 1 + size form)))) (body_five kind)
+        ∙ rw (checked_above (registers_of form body)) (checked_told (above (registers_of form body)) _)))
+
+    not_decoded : nat_le kind 19 ≡ false → done (decode c kind) ≡ told None
     unfolding decode carry
-    at_kind h = fetched ∙ rw (lt-leb kind 19 h)
+    not_decoded h = rw h
 
-    module _ (h : kind ≤ 19) where
-      at_body :
-          own.code.end - c.counter ≤ size (row_of kind).form
-          → carry (held own count row) memory (plan c) ≡ kept memory (Deed.faults (Reason.Fetch own.code.end))
-      unfolding decode carry
-      at_body p =
-          fetched
-          ∙ rw (
-            le-leb kind 19 h,
-            fetch_past own (c.counter + 1) (size (row_of kind).form) (omega (arith, inside_from own.code c.counter i))
-                (omega (arith, inside_below own.code c.counter i)) (omega (arith, inside_below own.code c.counter i)),
-          )
-
-      module _ (p : size (row_of kind).form < own.code.end - c.counter) (r : ℕ)
-          (f : r ≡ suspect (row_of kind).form (peek memory (c.counter + 1) 5)) where
-        abbrev on : Context
-        on = with_counter c (c.counter + 1 + size (row_of kind).form)
-
-        body :
-            carry (held own count row) memory (plan c)
-            ≡ carry (held own count row) memory (tested five (row_of kind) memory (c.counter + 1) c on)
-        unfolding decode carry worked
-        body =
-            fetched
-            ∙ rw (
-              le-leb kind 19 h,
-              home_all own Access.Fetch (c.counter + 1) (size (row_of kind).form) (omega (arith, inside_from own.code c.counter i))
-                  (omega (arith, inside_below own.code c.counter i)),
-            )
-            (ap (λ t. carry (held own count row) memory (t memory (c.counter + 1) c on)) (body_five kind))
-
-        at_register : 7 < r → carry (held own count row) memory (plan c) ≡ kept memory (Deed.faults (Reason.Register r))
-        unfolding carry
-        at_register q = body ∙ rw (checked_suspect, ← f, lt-leb r 7 q)
-
-        at_works :
-            r ≤ 7
-            → carry (held own count row) memory (plan c)
-            ≡ carry (held own count row) memory (work (row_of kind).effect (peek memory (c.counter + 1) 5) c on)
-        at_works q = body ∙ rw (checked_suspect, ← f, le-leb r 7 q)
-
--- ---- as `one` tells them
-
-pub one_fetch :
-    (own : Domain) (count : ℕ) (row : List Bool) (rs : List ℕ) (n : ℕ) (memory : List ℕ) → inside own.code n ≡ false
-    → Tells (held own count row) plan rs n memory (Went.Faults (Reason.Fetch n)) rs memory
-one_fetch own count row rs n memory e = (λ x b. at_fetch own count row memory (seen rs n x b) e, refl)
-
--- what is known once the kind byte is fetched
-pub record Fetched : Type 0 where
-  pub own : Domain
-  pub count : ℕ
-  pub row : List Bool
-  pub registers : List ℕ
-  pub counter : ℕ
-  pub memory : List ℕ
-  pub kind : ℕ
-  pub read : kind ≡ slice_index memory counter
-  pub there : inside own.code counter ≡ true
-
-module _ (c : Fetched) where
-  abbrev pub One : Went → List ℕ → List ℕ → Type 0
-  One = Tells (held c.own c.count c.row) plan c.registers c.counter c.memory
-
-  abbrev form : Body
-  form = (row_of c.kind).form
-
-  abbrev bytes : List ℕ
-  bytes = peek c.memory (c.counter + 1) 5
-
-  -- the bytes that name registers are tested one after the other
-  module _ {r : ℕ} (e : r ≡ if_named (first_named form) (byte_r bytes)) where
-    pub suspect_first : 7 < r → r ≡ suspect form bytes
-    suspect_first q = rw (← e, lt-leb r 7 q)
-
-    pub suspect_second : {s : ℕ} → s ≡ if_named (second_named form) (byte_s bytes) → r ≤ 7 → s ≡ suspect form bytes
-    suspect_second h q = rw (← e, le-leb r 7 q) h
-
-  pub one_kind : 19 < c.kind → One (Went.Faults (Reason.Kind c.kind)) c.registers c.memory
-  one_kind h = (
-    λ x b.
-        at_kind c.own c.count c.row c.memory (seen c.registers c.counter x b) c.kind c.read c.there h,
-    refl,
-  )
-
-  module _ (h : c.kind ≤ 19) (d : Decoded) (e : d ≡ decoded c.kind) where
-    pub one_body :
-        c.own.code.end - c.counter ≤ d.length → One (Went.Faults (Reason.Fetch c.own.code.end)) c.registers c.memory
-    one_body p = (
-      λ x b.
-          at_body c.own c.count c.row c.memory (seen c.registers c.counter x b) c.kind c.read c.there h
-          (rw e at p),
-      refl,
-    )
-
-    module _ (p : d.length < c.own.code.end - c.counter) (r : ℕ) (f : r ≡ suspect form bytes) where
-      pub one_register : 7 < r → One (Went.Faults (Reason.Register r)) c.registers c.memory
-      one_register q = (
-        λ x b.
-            at_register c.own c.count c.row c.memory (seen c.registers c.counter x b) c.kind c.read c.there h
-            (rw e at p) r f q,
-        refl,
-      )
-
-      pub one_works :
-          (x : Went) (rs' memory' : List ℕ) → r ≤ 7
-          → Works d.effect c.own c.count c.row (c.counter + 1) (c.counter + 1 + d.length) c.registers c.memory
-          x rs' memory'
-          → One x rs' memory'
-      one_works x rs' memory' q v =
-          let w =
-          subst
-          (λ k. Works k.effect c.own c.count c.row (c.counter + 1) (c.counter + 1 + k.length) c.registers c.memory
-          x rs' memory') e v in (
-            λ y b.
-                at_works c.own c.count c.row c.memory (seen c.registers c.counter y b) c.kind c.read c.there h
-                (rw e at p) r f q
-                ∙ (w c.counter).0 y b,
-            (w c.counter).1,
-          )
+    pub plan_told : done (plan c) ≡ told (if nat_le kind 19 then Some (decoded kind) else None)
+    plan_told =
+        fetched ∙ by_bool (nat_le kind 19) (λ h. rw h (decoded_told (leb-true kind 19 h))) (λ h. rw h (not_decoded h))

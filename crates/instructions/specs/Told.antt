@@ -1,17 +1,18 @@
 -- How an instruction went, told by the code for registers and memory alone: what it means for the context that it belongs to.
 -- Assumes nothing.
-use Rattle.std.specs.Prelude.{◌≡◌, ℕ, ◌-◌, Bool, false, ◌&&◌, List, slice_index_or, if◌then◌else◌}
+use Rattle.std.specs.Prelude.{◌≡◌, ℕ, ◌-◌, Bool, false, ◌&&◌, List, None, Some, Result, Ok, Err, slice_index_or, if◌then◌else◌}
+use Rattle.std.specs.Prelude.{Option as Found}
 use Rattle.std.proofs.Math.Option.{Option, none, some}
 use Rattle.model.specs.Map.{Rights, is_domain, may}
 use Rattle.model.specs.States.{full, with_counter}
-use Rattle.model.specs.Instructions.{Deed, Plan, take_into, work, peek, kept, carry}
+use Rattle.model.specs.Instructions.{Deed, Plan, take_into, work, kept, carry}
 use Rattle.model.specs.declared.map.Domain.{Domain}
+use Rattle.model.specs.declared.state.Reason.{Reason}
 use Rattle.model.specs.declared.state.Status.{Status}
 use Rattle.model.specs.declared.state.Mailbox.{Mailbox}
 use Rattle.model.specs.declared.state.Context.{Context}
 use Rattle.model.specs.declared.instruction.Effect.{Effect}
 use Rattle.instructions.specs.declared.went.Went.{Went}
-use Rattle.instructions.specs.declared.access.Denied.{Denied}
 
 -- the rights of a domain, of which the code holds its entry in the map, the count and its row of the grid
 abbrev pub linked : ℕ → List Bool → ℕ → Bool
@@ -20,10 +21,10 @@ linked count row t = is_domain count t && slice_index_or row (t - 1) false
 abbrev pub held : Domain → ℕ → List Bool → Rights
 held own count row = record { allows = may own; sends = linked count row }
 
--- the lowest denied address, or none
-abbrev pub lowest_of : Denied → Option ℕ
-lowest_of Denied.Nowhere = none
-lowest_of (Denied.At x) = some x
+-- an option of the code, as the definitions have it
+abbrev pub lowest_of : Found ℕ → Option ℕ
+lowest_of None = none
+lowest_of (Some x) = some x
 
 abbrev pub seen : List ℕ → ℕ → Status → Mailbox → Context
 seen rs n x b = record { registers = rs; counter = n; status = x; mailbox = b }
@@ -40,6 +41,11 @@ deed c rs (Went.Receives r s n) = if full c.mailbox then Deed.runs (take_into c 
 deed c rs (Went.Yields n) = Deed.gives_way (loaded c rs n)
 deed c rs Went.Halts = Deed.halts
 deed c rs (Went.Faults x) = Deed.faults x
+
+-- an error is a fault
+abbrev pub went : Result Went Reason → Went
+went (Ok x) = x
+went (Err e) = Went.Faults e
 
 -- registers change only where the domain goes on by itself
 abbrev pub Keeps : Went → List ℕ → List ℕ → Type 0
@@ -58,7 +64,7 @@ Tells q p rs n memory x rs' memory' =
     → carry q memory (p (seen rs n status b)) ≡ kept memory' (deed (seen rs n status b) rs' x))
     × Keeps x rs rs'
 
--- the effect e, its body from a on
-abbrev pub Works : Effect → Domain → ℕ → List Bool → ℕ → ℕ → List ℕ → List ℕ → Went → List ℕ → List ℕ → Type 0
-Works e own count row a next rs memory x rs' memory' =
-    (n : ℕ) → Tells (held own count row) (λ c. work e (peek memory a 5) c (with_counter c next)) rs n memory x rs' memory'
+-- the effect e with the body b
+abbrev pub Works : Effect → Domain → ℕ → List Bool → List ℕ → ℕ → List ℕ → List ℕ → Went → List ℕ → List ℕ → Type 0
+Works e own count row b next rs memory x rs' memory' =
+    (n : ℕ) → Tells (held own count row) (λ c. work e b c (with_counter c next)) rs n memory x rs' memory'

@@ -1,64 +1,41 @@
 // The bytes of memory. What lies past its end reads as 0 and is not set, so that no caller has to have looked.
-ghost use Rattle.std.specs.Prelude.{◌≡◌, ◌^◌, ◌<◌, set, slice_index, slice_set};
+ghost use Rattle.std.specs.Prelude.{◌≡◌, slice_index};
 ghost use Rattle.std.proofs.lemmas.List.Edits.{sets};
-ghost use Rattle.model.specs.Basics.{bytes, number, half};
+ghost use Rattle.model.specs.Basics.{number};
 ghost use Rattle.model.specs.Instructions.{peek};
+
+use std::array;
 
 pub fn byte(memory: &[u8], a: usize) -> u8
     ensures { result ≡ slice_index memory.now a }
 {
-    if a < memory.len() {
-        return memory[a];
-    }
-    0
+    memory.get(a).copied().unwrap_or(0)
 }
 
-pub fn put(memory: &mut [u8], a: usize, b: u8)
-    ensures { memory.new ≡ slice_set memory.old a b }
+// The N bytes from a on.
+pub fn peek<const N: usize>(memory: &[u8], a: usize) -> [u8; N]
+    ensures { result ≡ peek memory.now a N }
 {
-    if a < memory.len() {
-        memory[a] = b;
-    }
-}
-
-fn wide(b: u8) -> u32
-    ensures { (result ≡ b) × (result < 256) }
-{
-    b as u32
-}
-
-// "a 16-bit little-endian address"
-pub fn half(memory: &[u8], a: usize) -> u32
-    requires { a < 2 ^ 33 }
-    ensures { result ≡ half (peek memory.now a 2) 0 }
-{
-    let second = a + 1;
-    wide(byte(memory, a)) + 256 * wide(byte(memory, second))
+    let rest = memory.get(a..).unwrap_or(&[]);
+    array::from_fn(|i| byte(rest, i))
 }
 
 // "4 bytes little-endian"
 pub fn number(memory: &[u8], a: usize) -> u32
-    requires { a < 2 ^ 33 }
     ensures { result ≡ number (peek memory.now a 4) 0 }
 {
-    let second = a + 1;
-    let third = second + 1;
-    let fourth = third + 1;
-    wide(byte(memory, a))
-        + 256
-            * (wide(byte(memory, second))
-                + 256 * (wide(byte(memory, third)) + 256 * wide(byte(memory, fourth))))
+    u32::from_le_bytes(peek(memory, a))
 }
 
-pub fn put_number(memory: &mut [u8], a: usize, n: u32)
-    requires { a < 2 ^ 33 }
-    ensures { memory.new ≡ sets memory.old a (bytes n) }
+// The bytes from a on become these.
+pub fn put(memory: &mut [u8], a: usize, bytes: &[u8])
+    ensures { memory.new ≡ sets memory.old a bytes.now }
 {
-    let second = a + 1;
-    let third = second + 1;
-    let fourth = third + 1;
-    put(memory, a, (n % 256) as u8);
-    put(memory, second, (n / 256 % 256) as u8);
-    put(memory, third, (n / 256 / 256 % 256) as u8);
-    put(memory, fourth, (n / 256 / 256 / 256 % 256) as u8);
+    for (i, b) in bytes.iter().enumerate() {
+        let at = a.saturating_add(i);
+        // No `get_mut`: what the slice holds after it is not told to a proof.
+        if at < memory.len() {
+            memory[at] = *b;
+        }
+    }
 }

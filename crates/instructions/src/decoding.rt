@@ -1,18 +1,16 @@
-// "One kind byte, then the body": the body's length and the effect, and the register byte that decides.
-ghost use Rattle.std.specs.Prelude.{◌≡◌, ◌^◌, ◌<◌, ◌≤◌};
-ghost use Rattle.model.specs.Table.{size, row_of, decoded};
-ghost use Rattle.model.specs.Instructions.{byte_r, byte_s, peek};
-ghost use Rattle.instructions.specs.Suspect.{first_named, second_named, if_named};
+// "One kind byte, then the body": the body's length and the effect, and the registers that it names.
+#![tactic(auto, unfolding(model::specs::Table::row_of, model::specs::Table::table))]
 
-use crate::byte::byte;
+ghost use Rattle.std.specs.Prelude.{◌≡◌, nat_le, nat_lt, None, Some, if◌then◌else◌};
+ghost use Rattle.std.specs.List.{find};
+ghost use Rattle.model.specs.Table.{size, registers_of, row_of, decoded};
+
 use model::instruction::{Decoded, Effect};
 
 fn length_of(kind: u8) -> u32
-    requires { kind ≤ 19 }
     ensures { result ≡ size (row_of kind).form }
 {
     match kind {
-        0 => 0,
         1 => 5,
         2..=8 => 2,
         9..=12 => 3,
@@ -24,11 +22,10 @@ fn length_of(kind: u8) -> u32
     }
 }
 
-fn effect_of(kind: u8) -> Effect
-    requires { kind ≤ 19 }
-    ensures { result ≡ (row_of kind).effect }
+fn effect_of(kind: u8) -> Option<Effect>
+    ensures { result ≡ (if nat_le kind 19 then Some (row_of kind).effect else None) }
 {
-    match kind {
+    Some(match kind {
         0 => Effect::Nothing,
         1 => Effect::Set,
         2 => Effect::Copy,
@@ -48,60 +45,35 @@ fn effect_of(kind: u8) -> Effect
         16 => Effect::Send,
         17 => Effect::Receive,
         18 => Effect::Advance,
-        _ => Effect::Halt,
-    }
+        19 => Effect::Halt,
+        _ => return None,
+    })
 }
 
-pub fn decode(kind: u8) -> Decoded
-    requires { kind ≤ 19 }
-    ensures { result ≡ decoded kind }
+// What a kind of the table comes to; a kind above 19 comes to nothing.
+pub fn decode(kind: u8) -> Option<Decoded>
+    ensures { result ≡ (if nat_le kind 19 then Some (decoded kind) else None) }
 {
+    let effect = effect_of(kind)?;
     let length = length_of(kind);
-    let effect = effect_of(kind);
-    Decoded {
-        length: length,
-        effect: effect,
+    Some(Decoded { length, effect })
+}
+
+// The register bytes of a body, "in body order".
+fn registers_of(kind: u8, body: &[u8; 5]) -> &[u8]
+    ensures { result.now ≡ registers_of (row_of kind).form body.now }
+{
+    match kind {
+        1 | 14..=15 => &body[..1],
+        2..=12 | 17 => &body[..2],
+        16 => &body[1..2],
+        _ => &body[..0],
     }
 }
 
-// Whether the first byte of the body names a register.
-fn first_named(kind: u8) -> bool
-    requires { kind ≤ 19 }
-    ensures { result ≡ first_named (row_of kind).form }
+// The first of them above 7.
+pub fn no_register(kind: u8, body: &[u8; 5]) -> Option<u8>
+    ensures { result ≡ find (λ r. nat_lt 7 r) (registers_of (row_of kind).form body.now) }
 {
-    ((1 <= kind) & (kind <= 12)) | ((14 <= kind) & (kind <= 15)) | (kind == 17)
-}
-
-fn second_named(kind: u8) -> bool
-    requires { kind ≤ 19 }
-    ensures { result ≡ second_named (row_of kind).form }
-{
-    ((2 <= kind) & (kind <= 12)) | ((16 <= kind) & (kind <= 17))
-}
-
-fn if_named(named: bool, r: u8) -> u8
-    ensures { result ≡ if_named named r }
-{
-    if named {
-        return r;
-    }
-    0
-}
-
-// "registers above 7 in body order": a byte of the body where it names a register, and 0 where it does not. The tests on the kind are
-// joined and not matched: a second jump table would cost more.
-pub fn first_register(memory: &[u8], kind: u8, at: usize) -> u8
-    requires { kind ≤ 19 }
-    ensures { result ≡ if_named (first_named (row_of kind).form) (byte_r (peek memory.now at 5)) }
-{
-    let r = byte(memory, at);
-    if_named(first_named(kind), r)
-}
-
-pub fn second_register(memory: &[u8], kind: u8, at: usize) -> u8
-    requires { (kind ≤ 19) × (at < 2 ^ 33) }
-    ensures { result ≡ if_named (second_named (row_of kind).form) (byte_s (peek memory.now at 5)) }
-{
-    let s = byte(memory, at + 1);
-    if_named(second_named(kind), s)
+    registers_of(kind, body).iter().copied().find(|&r| 7 < r)
 }

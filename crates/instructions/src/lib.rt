@@ -5,6 +5,7 @@
 mod access;
 pub mod byte;
 mod decoding;
+pub mod held;
 pub mod register;
 pub mod stretch;
 pub mod went;

@@ -7,21 +7,16 @@ use crate::went::Went;
 pub fn register(registers: &[u32; 8], r: u8) -> u32
     ensures { result ≡ slice_index registers.now r }
 {
-    let all = &registers[..];
-    let i = r as usize;
-    if i < all.len() {
-        return all[i];
-    }
-    0
+    registers.get(usize::from(r)).copied().unwrap_or(0)
 }
 
 pub fn set_register(registers: &mut [u32; 8], r: u8, v: u32)
     ensures { registers.new ≡ slice_set registers.old r v }
 {
-    let all = &mut registers[..];
-    let i = r as usize;
-    if i < all.len() {
-        all[i] = v;
+    let r = usize::from(r);
+    // No `get_mut`: what the array holds after it is not told to a proof.
+    if r < registers.len() {
+        registers[r] = v;
     }
 }
 

@@ -1,126 +1,105 @@
 // A domain's instructions, one after the other.
-ghost use Rattle.std.specs.Prelude.{◌≡◌, ◌≤◌, true, slice_index};
-ghost use Rattle.model.specs.Map.{most, inside};
+ghost use Rattle.std.specs.Prelude.{◌≡◌, true, slice_index};
+ghost use Rattle.model.specs.Map.{inside};
 ghost use Rattle.model.specs.Instructions.{plan};
-ghost use Rattle.instructions.specs.Told.{held, Tells};
+ghost use Rattle.instructions.specs.Told.{held, went, Tells};
 ghost use Rattle.instructions.specs.Steps.{Stretches};
 
-use crate::byte::byte;
-use crate::decoding::{decode, first_register, second_register};
+use crate::byte::{byte, peek};
+use crate::decoding::{decode, no_register};
+use crate::held::Held;
 use crate::went::{Ran, Went};
-use crate::work::work;
-use model::MOST;
-use model::map::Domain;
+use model::instruction::Decoded;
 use model::state::Reason;
 use rights::region::inside;
 
-// "fetch of the body, registers above 7 in body order, then access or channel"
-fn known(
-    kind: u8,
-    own: Domain,
-    count: u8,
-    row: [bool; MOST],
-    counter: u32,
-    registers: &mut [u32; 8],
-    memory: &mut [u8],
-) -> Went
-    requires { (kind ≤ 19) × (kind ≡ slice_index memory.old counter) × (inside own.code counter ≡ true) × (count ≤ most) }
-    ensures { Tells (held own count row) plan
-        registers.old counter memory.old result registers.new memory.new }
-{
-    let decoded = decode(kind);
-    let code = own.code;
-    let end = code.end as u64;
-    let room = code.end - counter;
-    let body = (counter as usize) + 1;
-    let r = first_register(memory, kind, body);
-    if room <= decoded.length {
-        return Went::Faults(Reason::Fetch(end));
-    }
-    if 7 < r {
-        return Went::Faults(Reason::Register(r));
-    }
-    let s = second_register(memory, kind, body);
-    if 7 < s {
-        return Went::Faults(Reason::Register(s));
-    }
-    let effect = decoded.effect;
-    let next = counter + 1 + decoded.length;
-    work(effect, own, count, row, body, next, registers, memory)
-}
-
-// "fetch of the kind byte, kind above 19", then the rest for each kind by itself: its tests and its effect are compiled for that kind
-// alone, after one jump. The accesses share theirs.
-fn one(
-    own: Domain,
-    count: u8,
-    row: [bool; MOST],
-    counter: u32,
-    registers: &mut [u32; 8],
-    memory: &mut [u8],
-) -> Went
-    requires { count ≤ most }
-    ensures { Tells (held own count row) plan
-        registers.old counter memory.old result registers.new memory.new }
-{
-    let code = own.code;
-    if !inside(code, counter as u64) {
-        return Went::Faults(Reason::Fetch(counter as u64));
-    }
-    let kind = byte(memory, counter as usize);
-    match kind {
-        0 => known(0, own, count, row, counter, registers, memory),
-        1 => known(1, own, count, row, counter, registers, memory),
-        2 => known(2, own, count, row, counter, registers, memory),
-        3 => known(3, own, count, row, counter, registers, memory),
-        4 => known(4, own, count, row, counter, registers, memory),
-        5 => known(5, own, count, row, counter, registers, memory),
-        6 => known(6, own, count, row, counter, registers, memory),
-        7 => known(7, own, count, row, counter, registers, memory),
-        8 => known(8, own, count, row, counter, registers, memory),
-        13 => known(13, own, count, row, counter, registers, memory),
-        14 => known(14, own, count, row, counter, registers, memory),
-        15 => known(15, own, count, row, counter, registers, memory),
-        16 => known(16, own, count, row, counter, registers, memory),
-        17 => known(17, own, count, row, counter, registers, memory),
-        18 => known(18, own, count, row, counter, registers, memory),
-        19 => known(19, own, count, row, counter, registers, memory),
-        9..=12 => known(kind, own, count, row, counter, registers, memory),
-        _ => Went::Faults(Reason::Kind(kind)),
-    }
-}
-
-// Until an instruction needs more than its own registers and the memory, or the limit is spent.
-pub fn stretch(
-    own: Domain,
-    count: u8,
-    row: [bool; MOST],
-    counter: u32,
-    registers: &mut [u32; 8],
-    memory: &mut [u8],
-    limit: u64,
-) -> Ran
-    requires { count ≤ most }
-    ensures { Stretches own count row registers.old counter memory.old limit
-        result registers.new memory.new }
-{
-    let mut at = counter;
-    let mut left = limit;
-    while 0 < left {
-        left -= 1;
-        let went = one(own, count, row, at, registers, memory);
-        let Went::Moved(next) = went else {
-            return Ran {
-                left: left,
-                counter: at,
-                went: went,
-            };
+impl Held {
+    // "kind above 19, fetch of the body, registers above 7 in body order, then access or channel"
+    fn known(
+        &self,
+        kind: u8,
+        counter: u32,
+        registers: &mut [u32; 8],
+        memory: &mut [u8],
+    ) -> Result<Went, Reason>
+        requires { (kind ≡ slice_index memory.old counter) × (inside self.now.own.code counter ≡ true) }
+        ensures { Tells (held self.now.own self.now.count.n self.now.row) plan
+            registers.old counter memory.old (went result) registers.new memory.new }
+    {
+        let Some(Decoded { length, effect }) = decode(kind) else {
+            return Err(Reason::Kind(kind));
         };
-        at = next;
+        let end = self.own.code.end;
+        if end - counter <= length {
+            return Err(Reason::Fetch(u64::from(end)));
+        }
+        let body = peek(memory, counter as usize + 1);
+        if let Some(r) = no_register(kind, &body) {
+            return Err(Reason::Register(r));
+        }
+        self.work(effect, body, counter + 1 + length, registers, memory)
     }
-    Ran {
-        left: 0,
-        counter: at,
-        went: Went::Moved(at),
+
+    // "fetch of the kind byte", then the rest for each kind by itself: its tests and its effect are compiled for that kind alone, after
+    // one jump. The accesses share theirs with what is no kind.
+    #[tactic(auto, unfolding(model::specs::Instructions::plan, model::specs::Instructions::carry, model::specs::Map::lowest, model::specs::Map::may))]
+    fn one(&self, counter: u32, registers: &mut [u32; 8], memory: &mut [u8]) -> Result<Went, Reason>
+        ensures { Tells (held self.now.own self.now.count.n self.now.row) plan
+            registers.old counter memory.old (went result) registers.new memory.new }
+    {
+        let at = u64::from(counter);
+        if !inside(self.own.code, at) {
+            return Err(Reason::Fetch(at));
+        }
+        let kind = byte(memory, counter as usize);
+        match kind {
+            0 => self.known(0, counter, registers, memory),
+            1 => self.known(1, counter, registers, memory),
+            2 => self.known(2, counter, registers, memory),
+            3 => self.known(3, counter, registers, memory),
+            4 => self.known(4, counter, registers, memory),
+            5 => self.known(5, counter, registers, memory),
+            6 => self.known(6, counter, registers, memory),
+            7 => self.known(7, counter, registers, memory),
+            8 => self.known(8, counter, registers, memory),
+            13 => self.known(13, counter, registers, memory),
+            14 => self.known(14, counter, registers, memory),
+            15 => self.known(15, counter, registers, memory),
+            16 => self.known(16, counter, registers, memory),
+            17 => self.known(17, counter, registers, memory),
+            18 => self.known(18, counter, registers, memory),
+            19 => self.known(19, counter, registers, memory),
+            _ => self.known(kind, counter, registers, memory),
+        }
+    }
+
+    // Until an instruction needs more than its own registers and the memory, or the limit is spent.
+    pub fn stretch(
+        &self,
+        counter: u32,
+        registers: &mut [u32; 8],
+        memory: &mut [u8],
+        limit: u64,
+    ) -> Ran
+        ensures { Stretches self.now.own self.now.count.n self.now.row registers.old counter memory.old limit
+            result registers.new memory.new }
+    {
+        let mut at = counter;
+        for left in (0..limit).rev() {
+            let went = self.one(at, registers, memory).unwrap_or_else(Went::Faults);
+            let Went::Moved(next) = went else {
+                return Ran {
+                    left,
+                    counter: at,
+                    went,
+                };
+            };
+            at = next;
+        }
+        Ran {
+            left: 0,
+            counter: at,
+            went: Went::Moved(at),
+        }
     }
 }

@@ -1,95 +1,79 @@
 // "then access or channel": the effect of an instruction that was fetched and whose registers are good.
-ghost use Rattle.std.specs.Prelude.{◌≡◌, ◌^◌, ◌≤◌, nat_eq, nat_lt, if◌then◌else◌};
-ghost use Rattle.model.specs.Map.{most};
+ghost use Rattle.std.specs.Prelude.{◌≡◌, Ok, Err, if◌then◌else◌};
 ghost use Rattle.model.specs.declared.state.Reason.{Reason};
-ghost use Rattle.instructions.specs.Told.{linked, Works};
+ghost use Rattle.instructions.specs.Told.{linked, went, Works};
 ghost use Rattle.instructions.specs.declared.went.Went.{Went};
 
-use crate::access::{address, load_byte, load_word, store_byte, store_word};
-use crate::byte::{byte, half, number};
+use crate::access::{Address, load, store};
+use crate::held::Held;
 use crate::register::{becomes, register};
 use crate::went::Went;
-use model::MOST;
 use model::instruction::Effect;
-use model::map::Domain;
 use model::state::Reason;
-use rights::channel::is_domain;
 
-// "1 if r is below s, else 0"
-fn less(x: u32, y: u32) -> u32
-    ensures { result ≡ (if nat_lt x y then 1 else 0) }
-{
-    if x < y {
-        return 1;
+impl Held {
+    // "faults as channel if d is not 1 to N or not granted"
+    fn send(&self, t: u8, word: u32, next: u32) -> Result<Went, Reason>
+        ensures { result ≡ (if linked self.now.count.n self.now.row t then Ok (Went.Sends t word next) else Err (Reason.Channel t)) }
+    {
+        if self.count.has(t) && self.row[usize::from(t) - 1] {
+            Ok(Went::Sends(t, word, next))
+        } else {
+            Err(Reason::Channel(t))
+        }
     }
-    0
-}
 
-// "faults as channel if d is not 1 to N or not granted"
-fn send(count: u8, row: [bool; MOST], t: u8, word: u32, next: u32) -> Went
-    requires { count ≤ most }
-    ensures { result ≡ (if linked count row t then Went.Sends t word next else Went.Faults (Reason.Channel t)) }
-{
-    if !is_domain(count, t) {
-        return Went::Faults(Reason::Channel(t));
-    }
-    if row[(t as usize) - 1] {
-        return Went::Sends(t, word, next);
-    }
-    Went::Faults(Reason::Channel(t))
-}
-
-fn jump_if(x: u32, target: u32, next: u32) -> Went
-    ensures { result ≡ Went.Moved (if nat_eq x 0 then next else target) }
-{
-    if x == 0 {
-        return Went::Moved(next);
-    }
-    Went::Moved(target)
-}
-
-// The body stands from at on. "Every register that an instruction reads is read before it sets any."
-pub fn work(
-    effect: Effect,
-    own: Domain,
-    count: u8,
-    row: [bool; MOST],
-    at: usize,
-    next: u32,
-    registers: &mut [u32; 8],
-    memory: &mut [u8],
-) -> Went
-    requires { (count ≤ most) × (at ≤ 2 ^ 32) }
-    ensures { Works effect own count row at next
-        registers.old memory.old result registers.new memory.new }
-{
-    let second = at + 1;
-    let r = byte(memory, at);
-    let s = byte(memory, second);
-    let o = byte(memory, second + 1);
-    let x = register(registers, r);
-    let y = register(registers, s);
-    let a = address(y, o);
-    match effect {
-        Effect::Nothing => Went::Moved(next),
-        Effect::Set => becomes(registers, r, number(memory, second), next),
-        Effect::Copy => becomes(registers, r, y, next),
-        Effect::Add => becomes(registers, r, std::num::wrapping_add_u32(x, y), next),
-        Effect::Subtract => becomes(registers, r, std::num::wrapping_sub_u32(x, y), next),
-        Effect::And => becomes(registers, r, x & y, next),
-        Effect::Or => becomes(registers, r, x | y, next),
-        Effect::Xor => becomes(registers, r, x ^ y, next),
-        Effect::Less => becomes(registers, r, less(x, y), next),
-        Effect::LoadByte => load_byte(own, a, r, next, registers, memory),
-        Effect::LoadWord => load_word(own, a, r, next, registers, memory),
-        Effect::StoreByte => store_byte(own, a, x, next, memory),
-        Effect::StoreWord => store_word(own, a, x, next, memory),
-        Effect::Jump => Went::Moved(half(memory, at)),
-        Effect::JumpIf => jump_if(x, half(memory, second), next),
-        Effect::JumpTo => Went::Moved(x),
-        Effect::Send => send(count, row, r, y, next),
-        Effect::Receive => Went::Receives(r, s, next),
-        Effect::Advance => Went::Yields(next),
-        Effect::Halt => Went::Halts,
+    // "Every register that an instruction reads is read before it sets any."
+    #[tactic(auto, unfolding(model::specs::Instructions::work, model::specs::Instructions::carry))]
+    pub fn work(
+        &self,
+        effect: Effect,
+        body: [u8; 5],
+        next: u32,
+        registers: &mut [u32; 8],
+        memory: &mut [u8],
+    ) -> Result<Went, Reason>
+        ensures { Works effect self.now.own self.now.count.n self.now.row body next
+            registers.old memory.old (went result) registers.new memory.new }
+    {
+        let [r, s, o, p, q] = body;
+        let x = register(registers, r);
+        let y = register(registers, s);
+        let a = Address::new(y, o);
+        match effect {
+            Effect::Nothing => Ok(Went::Moved(next)),
+            Effect::Set => Ok(becomes(registers, r, u32::from_le_bytes([s, o, p, q]), next)),
+            Effect::Copy => Ok(becomes(registers, r, y, next)),
+            Effect::Add => Ok(becomes(registers, r, x.wrapping_add(y), next)),
+            Effect::Subtract => Ok(becomes(registers, r, x.wrapping_sub(y), next)),
+            Effect::And => Ok(becomes(registers, r, x & y, next)),
+            Effect::Or => Ok(becomes(registers, r, x | y, next)),
+            Effect::Xor => Ok(becomes(registers, r, x ^ y, next)),
+            Effect::Less => Ok(becomes(registers, r, u32::from(x < y), next)),
+            Effect::LoadByte => {
+                let [b] = load::<1>(self.own, a, memory)?;
+                Ok(becomes(registers, r, u32::from(b), next))
+            }
+            Effect::LoadWord => {
+                let word = u32::from_le_bytes(load(self.own, a, memory)?);
+                Ok(becomes(registers, r, word, next))
+            }
+            Effect::StoreByte => {
+                store(self.own, a, &x.to_le_bytes()[..1], memory)?;
+                Ok(Went::Moved(next))
+            }
+            Effect::StoreWord => {
+                store(self.own, a, &x.to_le_bytes(), memory)?;
+                Ok(Went::Moved(next))
+            }
+            Effect::Jump => Ok(Went::Moved(u32::from(u16::from_le_bytes([r, s])))),
+            Effect::JumpIf if x == 0 => Ok(Went::Moved(next)),
+            Effect::JumpIf => Ok(Went::Moved(u32::from(u16::from_le_bytes([s, o])))),
+            Effect::JumpTo => Ok(Went::Moved(x)),
+            Effect::Send => self.send(r, y, next),
+            Effect::Receive => Ok(Went::Receives(r, s, next)),
+            Effect::Advance => Ok(Went::Yields(next)),
+            Effect::Halt => Ok(Went::Halts),
+        }
     }
 }

@@ -1,7 +1,7 @@
 -- A node that was accepted and is between two events of its trace: what the next event, and a broken record make of what is told.
 --     starts, turns, stops
 -- Assumes nothing.
-use Rattle.std.specs.Prelude.{ℕ, ◌+◌, ◌<◌, ◌≡◌, List, length, drop}
+use Rattle.std.specs.Prelude.{ℕ, ◌+◌, ◌<◌, ◌≡◌, List, length, drop, Ok, Err}
 use Rattle.std.proofs.Common.{sym, ◌∙◌, eq-eqb}
 use Rattle.std.proofs.Math.Path.{ap, subst}
 use Rattle.model.specs.Map.{Grid}
@@ -16,9 +16,8 @@ use Rattle.model.specs.Program.{active_line}
 use Rattle.model.specs.declared.map.Map.{Map}
 use Rattle.model.specs.declared.state.State.{State}
 use Rattle.model.specs.declared.event.Event.{Event}
-use Rattle.model.specs.declared.event.EventRead.{EventRead}
+use Rattle.model.specs.Answers.{EventRead}
 use Rattle.model.specs.declared.refusal.Refusal.{Refusal}
-use Rattle.model.specs.declared.call.Verdict.{Verdict}
 use Rattle.model.specs.declared.call.Started.{Started}
 use Rattle.model.specs.declared.call.Stepped.{Stepped}
 use Rattle.promises.specs.Kept.{each_keeps}
@@ -26,7 +25,7 @@ use Rattle.lines.specs.Puts.{Place, puts}
 use Rattle.lines.specs.Telling.{reply_line, broken_line, tells}
 use Rattle.lines.specs.TellingLaws.{tells_broken, tells_whole}
 
-module _ (m : Map) (g : Grid) (a : accepts m g ≡ Verdict.Accepted) where
+module _ (m : Map) (g : Grid) (a : accepts m g ≡ Ok tt) where
   pub starts : {r : Started} → r ≡ starter m g → (r.state ≡ start m) × Sound m.count r.state
   unfolding starter
   starts {r} q =
@@ -35,20 +34,20 @@ module _ (m : Map) (g : Grid) (a : accepts m g ≡ Verdict.Accepted) where
       (e, subst (Sound m.count) (sym e) (start_sound m ok.some ok.few))
 
   module _ (s : State) (memory : List ℕ) (long : length memory ≡ m.length) (i : Sound m.count s) where
-    node_stands : node_verdict m g s memory ≡ Verdict.Accepted
+    node_stands : node_verdict m g s memory ≡ Ok tt
     unfolding node_verdict
     node_stands =
         then_both a (check_both Refusal.Memory (eq-eqb _ _ long) (ap (λ b. check b Refusal.Malformed) (sound_formed i)))
 
     answered :
         (e : Event) {r : Stepped} {memory' : List ℕ} → left r memory' ≡ stepper m g s memory e
-        → left r memory' ≡ stepped Verdict.Accepted s memory (event m g s memory e)
+        → left r memory' ≡ stepped (Ok tt) s memory (event m g s memory e)
     unfolding stepper
     answered e q = q ∙ ap (λ v. stepped v s memory (event m g s memory e)) node_stands
 
     module _ (bytes : List ℕ) (at n : ℕ) (x : Place) (h : at < length bytes) where
       pub turns :
-          (e : Event) (k : ℕ) → event_read (drop at bytes) ≡ EventRead.Whole e k → {r : Stepped} {memory' : List ℕ} {y : Place}
+          (e : Event) (k : ℕ) → event_read (drop at bytes) ≡ Ok (e, k) → {r : Stepped} {memory' : List ℕ} {y : Place}
           → left r memory' ≡ stepper m g s memory e → y ≡ puts x (reply_line (n + 1) r.reply)
           → (length memory' ≡ m.length) × Sound m.count r.state
           × (tells m g bytes (at + k) (n + 1) y r.state memory' ≡ tells m g bytes at n x s memory)
@@ -67,7 +66,7 @@ module _ (m : Map) (g : Grid) (a : accepts m g ≡ Verdict.Accepted) where
           ))
 
       pub stops :
-          (r : Refusal) {read : EventRead} → read ≡ EventRead.Broken r → event_read (drop at bytes) ≡ read → {y z : Place}
+          (r : Refusal) {read : EventRead} → read ≡ Err r → event_read (drop at bytes) ≡ read → {y z : Place}
           → y ≡ puts x (broken_line read at) → z ≡ puts y (active_line s.active)
           → left z memory ≡ tells m g bytes at n x s memory
       stops r w q e f =

@@ -1,101 +1,101 @@
 // "a line per event: event number, answer, domain, and for a fault the reason and its number; then the active domain"
 ghost use Rattle.std.specs.Prelude.{◌≡◌};
-ghost use Rattle.model.specs.Calls.{left};
 ghost use Rattle.model.specs.Program.{reason_text, answer_text, event_line, refusal_line, refusal_at_line, active_line};
-ghost use Rattle.model.specs.declared.event.Answer.{Answer};
-ghost use Rattle.lines.specs.Puts.{puts};
+ghost use Rattle.lines.specs.Pages.{onto};
 ghost use Rattle.lines.specs.Telling.{reply_line, broken_line};
 
 use crate::number::refusal_number;
-use crate::text::{named, number, word};
+use crate::text::Page;
 use model::call::Reply;
 use model::event::{Answer, EventRead};
-use model::refusal::Refusal;
+use model::refusal::{Refusal, RefusedAt};
 use model::state::Reason;
 
-fn reason(out: &mut [u8], at: usize, r: Reason) -> usize
-    ensures { left result out.new ≡ puts (left at out.old) (reason_text r) }
-{
-    match r {
-        Reason::Fetch(a) => named(out, at, b"fetch ", a),
-        Reason::Read(a) => named(out, at, b"read ", a),
-        Reason::Write(a) => named(out, at, b"write ", a),
-        Reason::Kind(b) => named(out, at, b"kind ", b as u64),
-        Reason::Register(b) => named(out, at, b"register ", b as u64),
-        Reason::Channel(b) => named(out, at, b"channel ", b as u64),
+impl Page<'_> {
+    #[tactic(auto, unfolding(model::specs::Program::reason_text))]
+    fn reason(&mut self, r: Reason)
+        ensures { self.new ≡ onto self.old (reason_text r) }
+    {
+        match r {
+            Reason::Fetch(a) => self.named(b"fetch ", a),
+            Reason::Read(a) => self.named(b"read ", a),
+            Reason::Write(a) => self.named(b"write ", a),
+            Reason::Kind(b) => self.named(b"kind ", u64::from(b)),
+            Reason::Register(b) => self.named(b"register ", u64::from(b)),
+            Reason::Channel(b) => self.named(b"channel ", u64::from(b)),
+        }
     }
-}
 
-fn faulted(out: &mut [u8], at: usize, d: u8, r: Reason) -> usize
-    ensures { left result out.new ≡ puts (left at out.old) (answer_text (Answer.Faulted d r)) }
-{
-    let domain = named(out, at, b"faulted ", d as u64);
-    let space = word(out, domain, b" ");
-    reason(out, space, r)
-}
-
-fn answer(out: &mut [u8], at: usize, a: Answer) -> usize
-    ensures { left result out.new ≡ puts (left at out.old) (answer_text a) }
-{
-    match a {
-        Answer::Idle => word(out, at, b"idle"),
-        Answer::Ran(d) => named(out, at, b"ran ", d as u64),
-        Answer::Waits(d) => named(out, at, b"waits ", d as u64),
-        Answer::Halted(d) => named(out, at, b"halted ", d as u64),
-        Answer::Faulted(d, r) => faulted(out, at, d, r),
-        Answer::Switched(d) => named(out, at, b"switched ", d as u64),
-        Answer::Taken(d) => named(out, at, b"taken ", d as u64),
-        Answer::Full(d) => named(out, at, b"full ", d as u64),
-        Answer::NoDomain(b) => named(out, at, b"no domain ", b as u64),
+    #[tactic(auto, unfolding(model::specs::Program::answer_text))]
+    fn answer(&mut self, a: Answer)
+        ensures { self.new ≡ onto self.old (answer_text a) }
+    {
+        match a {
+            Answer::Idle => self.word(b"idle"),
+            Answer::Ran(d) => self.named(b"ran ", u64::from(d)),
+            Answer::Waits(d) => self.named(b"waits ", u64::from(d)),
+            Answer::Halted(d) => self.named(b"halted ", u64::from(d)),
+            Answer::Faulted(d, r) => {
+                self.named(b"faulted ", u64::from(d));
+                self.word(b" ");
+                self.reason(r);
+            }
+            Answer::Switched(d) => self.named(b"switched ", u64::from(d)),
+            Answer::Taken(d) => self.named(b"taken ", u64::from(d)),
+            Answer::Full(d) => self.named(b"full ", u64::from(d)),
+            Answer::NoDomain(b) => self.named(b"no domain ", u64::from(b)),
+        }
     }
-}
 
-fn event_line(out: &mut [u8], at: usize, n: u64, a: Answer) -> usize
-    ensures { left result out.new ≡ puts (left at out.old) (event_line n a) }
-{
-    let numbered = number(out, at, n);
-    let space = word(out, numbered, b" ");
-    let answered = answer(out, space, a);
-    word(out, answered, b"\n")
-}
-
-pub fn refusal_line(out: &mut [u8], at: usize, r: Refusal) -> usize
-    ensures { left result out.new ≡ puts (left at out.old) (refusal_line r) }
-{
-    let numbered = number(out, at, refusal_number(r) as u64);
-    word(out, numbered, b"\n")
-}
-
-pub fn refusal_at_line(out: &mut [u8], at: usize, r: Refusal, offset: usize) -> usize
-    ensures { left result out.new ≡ puts (left at out.old) (refusal_at_line r offset) }
-{
-    let numbered = number(out, at, refusal_number(r) as u64);
-    let placed = named(out, numbered, b" at ", offset as u64);
-    word(out, placed, b"\n")
-}
-
-pub fn active_line(out: &mut [u8], at: usize, d: u8) -> usize
-    ensures { left result out.new ≡ puts (left at out.old) (active_line d) }
-{
-    let named = named(out, at, b"active ", d as u64);
-    word(out, named, b"\n")
-}
-
-pub fn reply_line(out: &mut [u8], at: usize, n: u64, reply: Reply) -> usize
-    ensures { left result out.new ≡ puts (left at out.old) (reply_line n reply) }
-{
-    match reply {
-        Reply::Answered(a) => event_line(out, at, n, a),
-        Reply::Refused(r) => refusal_line(out, at, r),
+    #[tactic(auto, using(crate::specs::PagesLaws::onto_append), unfolding(model::specs::Program::event_line))]
+    fn event_line(&mut self, n: u64, a: Answer)
+        ensures { self.new ≡ onto self.old (event_line n a) }
+    {
+        self.number(n);
+        self.word(b" ");
+        self.answer(a);
+        self.word(b"\n");
     }
-}
 
-// "For a trace this line stands between the events and the active domain"
-pub fn broken_line(out: &mut [u8], at: usize, read: EventRead, offset: usize) -> usize
-    ensures { left result out.new ≡ puts (left at out.old) (broken_line read offset) }
-{
-    match read {
-        EventRead::Whole(_, _) => at,
-        EventRead::Broken(r) => refusal_at_line(out, at, r, offset),
+    #[tactic(auto, using(crate::specs::PagesLaws::onto_append), unfolding(model::specs::Program::refusal_line))]
+    pub fn refusal_line(&mut self, r: Refusal)
+        ensures { self.new ≡ onto self.old (refusal_line r) }
+    {
+        self.number(u64::from(refusal_number(r)));
+        self.word(b"\n");
+    }
+
+    #[tactic(auto, using(crate::specs::PagesLaws::onto_append), unfolding(model::specs::Program::refusal_at_line))]
+    pub fn refusal_at_line(&mut self, f: RefusedAt)
+        ensures { self.new ≡ onto self.old (refusal_at_line f.refusal f.at) }
+    {
+        self.number(u64::from(refusal_number(f.refusal)));
+        self.named(b" at ", f.at as u64);
+        self.word(b"\n");
+    }
+
+    pub fn active_line(&mut self, d: u8)
+        ensures { self.new ≡ onto self.old (active_line d) }
+    {
+        self.named(b"active ", u64::from(d));
+        self.word(b"\n");
+    }
+
+    pub fn reply_line(&mut self, n: u64, reply: Reply)
+        ensures { self.new ≡ onto self.old (reply_line n reply) }
+    {
+        match reply {
+            Ok(a) => self.event_line(n, a),
+            Err(r) => self.refusal_line(r),
+        }
+    }
+
+    // "For a trace this line stands between the events and the active domain"
+    pub fn broken_line(&mut self, read: EventRead, at: usize)
+        ensures { self.new ≡ onto self.old (broken_line read at) }
+    {
+        if let Err(refusal) = read {
+            self.refusal_at_line(RefusedAt { refusal, at });
+        }
     }
 }

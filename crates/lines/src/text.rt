@@ -1,43 +1,40 @@
 // Bytes, words and numbers, one after the other in a lent buffer. What has no room is left out, so that no caller has to have measured.
-ghost use Rattle.std.specs.Prelude.{◌≡◌, [], ◌∷◌, ◌++◌};
-ghost use Rattle.model.specs.Calls.{left};
+ghost use Rattle.std.specs.Prelude.{◌≡◌, ◌++◌};
 ghost use Rattle.model.specs.Program.{decimal};
-ghost use Rattle.lines.specs.Puts.{puts};
+ghost use Rattle.lines.specs.Pages.{onto};
 
-fn put(out: &mut [u8], at: usize, b: u8) -> usize
-    ensures { left result out.new ≡ puts (left at out.old) (b ∷ []) }
-{
-    if at < out.len() {
-        out[at] = b;
-        return at + 1;
+// A lent buffer, and how many of its first bytes are set.
+#[derive(Drop)]
+pub struct Page<'a> {
+    pub text: &'a mut [u8],
+    pub end: usize,
+}
+
+impl Page<'_> {
+    pub fn word(&mut self, w: &[u8])
+        ensures { self.new ≡ onto self.old w.now }
+    {
+        if self.end < self.text.len() {
+            let n = w.len().min(self.text.len() - self.end);
+            let end = self.end + n;
+            self.text[self.end..end].copy_from_slice(&w[..n]);
+            self.end = end;
+        }
     }
-    at
-}
 
-pub fn word(out: &mut [u8], at: usize, w: &[u8]) -> usize
-    ensures { left result out.new ≡ puts (left at out.old) w.now }
-{
-    let mut end = at;
-    let mut i = 0;
-    while i < w.len() {
-        end = put(out, end, w[i]);
-        i += 1;
+    pub fn number(&mut self, n: u64)
+        ensures { self.new ≡ onto self.old (decimal n) }
+    {
+        let mut digits = itoa::Buffer::new();
+        self.word(digits.format(n).as_bytes());
     }
-    end
-}
 
-pub fn number(out: &mut [u8], at: usize, n: u64) -> usize
-    ensures { left result out.new ≡ puts (left at out.old) (decimal n) }
-{
-    let mut spelled = [0u8; 20];
-    let k = io::decimal(n, &mut spelled);
-    word(out, at, &spelled[..k])
-}
-
-// A word and its number.
-pub fn named(out: &mut [u8], at: usize, w: &[u8], n: u64) -> usize
-    ensures { left result out.new ≡ puts (left at out.old) (w.now ++ decimal n) }
-{
-    let end = word(out, at, w);
-    number(out, end, n)
+    // A word and its number.
+    #[tactic(auto, using(crate::specs::PagesLaws::onto_append))]
+    pub fn named(&mut self, w: &[u8], n: u64)
+        ensures { self.new ≡ onto self.old (w.now ++ decimal n) }
+    {
+        self.word(w);
+        self.number(n);
+    }
 }

@@ -1,6 +1,6 @@
--- The exits of the calls on a node: refused, and done on a node that was tested.
+-- The calls on a node that was tested.
 -- Assumes nothing.
-use Rattle.std.specs.Prelude.{if◌then◌else◌}
+use Rattle.std.specs.Prelude.{if◌then◌else◌, Ok, Err}
 use Prim.Native.Nat.{ℕ, ◌-◌, ◌≤◌}
 use mathlib.Core.Path.{◌≡◌, sym, ap, ◌∙◌}
 use mathlib.Core.List.{List}
@@ -18,9 +18,8 @@ use Rattle.model.specs.declared.state.State.{State}
 use Rattle.model.specs.declared.event.Answer.{Answer}
 use Rattle.model.specs.declared.event.Event.{Event}
 use Rattle.model.specs.declared.refusal.Refusal.{Refusal}
-use Rattle.model.specs.declared.call.Verdict.{Verdict}
-use Rattle.model.specs.declared.call.Reply.{Reply}
-use Rattle.model.specs.declared.call.Close.{Close}
+use Rattle.model.specs.declared.call.Stop.{Stop}
+use Rattle.model.specs.Answers.{Verdict}
 use Rattle.model.specs.declared.call.Played.{Played}
 use Rattle.model.specs.declared.call.Ending.{Ending}
 use Rattle.instructions.specs.Steps.{going, steps}
@@ -29,22 +28,7 @@ use Rattle.machine.specs.PlayingLaws.{plays_start}
 use Rattle.machine.specs.BatchLaws.{batch_of, steps_left, batch_steps}
 
 module _ (m : Map) (g : Grid) (s : State) (memory : List ℕ) {v : Verdict} (N : v ≡ node_verdict m g s memory) where
-  module _ {r : Refusal} (f : v ≡ Verdict.Refused r) where
-    pub event_refused : (e : Event) → left (record { reply = Reply.Refused r; state = s }) memory ≡ stepper m g s memory e
-    unfolding stepper
-    event_refused e = rw (sym N, f)
-
-    pub play_refused :
-        (bytes : List ℕ) → left (record { close = Close.Refused r; events = 0; state = s }) memory ≡ player m g s memory bytes
-    unfolding player
-    play_refused bytes = rw (sym N, f)
-
-    pub batch_refused :
-        (limit : ℕ) → left (record { ending = Ending.Refused r; steps = 0; state = s }) memory ≡ batcher m g s memory limit
-    unfolding batcher
-    batch_refused limit = rw (sym N, f)
-
-  module _ (f : v ≡ Verdict.Accepted) where
+  module _ (f : v ≡ Ok tt) where
     -- what the tests give to the functions that were spared them
     pub tested : length s.contexts ≡ most → Sound m.count s
     unfolding node_verdict
@@ -55,9 +39,9 @@ module _ (m : Map) (g : Grid) (s : State) (memory : List ℕ) {v : Verdict} (N :
 
     pub event_done :
         (e : Event) {a : Answer} {t : State} {memory' : List ℕ} → gives a t memory' ≡ event m g s memory e
-        → left (record { reply = Reply.Answered a; state = t }) memory' ≡ stepper m g s memory e
+        → left (record { reply = Ok a; state = t }) memory' ≡ stepper m g s memory e
     unfolding stepper
-    event_done e d = ap (stepped Verdict.Accepted s memory) d ∙ rw (sym N, f)
+    event_done e d = ap (stepped (Ok tt) s memory) d ∙ rw (sym N, f)
 
     pub play_done :
         (bytes : List ℕ) {x : Left Played (List ℕ)} → x ≡ plays m g bytes 0 0 s memory → x ≡ player m g s memory bytes
@@ -71,8 +55,8 @@ module _ (m : Map) (g : Grid) (s : State) (memory : List ℕ) {v : Verdict} (N :
 
       pub batch_done :
           {k : ℕ} {y : Ending} → k ≡ limit - n → y ≡ (if eqb n 0 then Ending.Spent else Ending.Idle)
-          → left (record { ending = y; steps = k; state = t }) memory' ≡ batcher m g s memory limit
+          → left (record { ending = Ok y; steps = k; state = t }) memory' ≡ batcher m g s memory limit
       unfolding batcher
       batch_done K Y =
-          rw (K, Y) (ap (λ r. batched Verdict.Accepted s memory (batch_of limit r)) d
-          ∙ ap (batched Verdict.Accepted s memory) (batch_steps m g s memory Answer.Idle limit) ∙ rw (sym N, f))
+          rw (K, Y) (ap (λ r. batched (Ok tt) s memory (batch_of limit r)) d
+          ∙ ap (batched (Ok tt) s memory) (batch_steps m g s memory Answer.Idle limit) ∙ rw (sym N, f))

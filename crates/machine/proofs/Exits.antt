@@ -1,6 +1,6 @@
--- Each exit of the calls that make several tests, over plain values: what the code found of a test is the definition's test,
--- and the way that it fell is the definition's verdict.
+-- What an accepted view stands on.
 -- Assumes nothing.
+use Rattle.std.specs.Prelude.{Ok, Err}
 use Prim.Native.Nat.{ℕ, ◌-◌, ◌≤◌, ◌<◌}
 use mathlib.Core.Path.{◌≡◌, refl, sym, ◌∙◌}
 use mathlib.Core.List.{List, []}
@@ -20,54 +20,8 @@ use Rattle.model.specs.declared.map.Region.{Region}
 use Rattle.model.specs.declared.map.Map.{Map}
 use Rattle.model.specs.declared.state.State.{State}
 use Rattle.model.specs.declared.refusal.Refusal.{Refusal}
-use Rattle.model.specs.declared.call.Verdict.{Verdict}
+use Rattle.model.specs.Answers.{Verdict}
 use Rattle.model.specs.declared.call.Started.{Started}
-
--- ---- the two verdicts: the map and grid with 9, then one last test
-
-unfoldable pub tests : Map → Grid → List ℕ → Verdict → Verdict
-tests m g memory w = (accepts m g ▸ as_long m memory) ▸ w
-
-then_then : (u v w : Verdict) → u ▸ v ▸ w ≡ (u ▸ v) ▸ w
-then_then Verdict.Accepted v w = refl
-then_then (Verdict.Refused r) v w = refl
-
-pub lent_tests :
-    (m : Map) (g : Grid) (memory : List ℕ) (d : ℕ)
-    → lent_verdict m g memory d ≡ tests m g memory (check (is_domain m.count d) Refusal.NoDomain)
-unfolding tests lent_verdict
-lent_tests m g memory d = then_then (accepts m g) (as_long m memory) _
-
-pub node_tests :
-    (m : Map) (g : Grid) (s : State) (memory : List ℕ)
-    → node_verdict m g s memory ≡ tests m g memory (check (well_formed m.count s) Refusal.Malformed)
-unfolding tests node_verdict
-node_tests m g s memory = then_then (accepts m g) (as_long m memory) _
-
-module _
-    (m : Map) (g : Grid) (memory : List ℕ) (w : Verdict) {u v : Verdict} (U : u ≡ tests m g memory w)
-    (A : v ≡ accepts m g ▸ as_long m memory) where
-  pub tests_refused : {r : Refusal} → v ≡ Verdict.Refused r → Verdict.Refused r ≡ u
-  unfolding tests
-  tests_refused e = sym (U ∙ then_stop w (sym A ∙ e))
-
-  pub tests_last : {y : Verdict} → v ≡ Verdict.Accepted → y ≡ w → y ≡ u
-  unfolding tests
-  tests_last e W = W ∙ sym (U ∙ then_pass w (sym A ∙ e))
-
--- ---- start
-
-abbrev found : Verdict → State → Started
-found v s = record { verdict = v; state = s }
-
-module _ (m : Map) (g : Grid) {v : Verdict} {s : State} (A : v ≡ accepts m g) where
-  pub start_refused : {r : Refusal} → v ≡ Verdict.Refused r → s ≡ no_state → found v s ≡ starter m g
-  unfolding starter
-  start_refused e f = rw (sym A, e, f)
-
-  pub start_ready : v ≡ Verdict.Accepted → s ≡ start m → found v s ≡ starter m g
-  unfolding starter
-  start_ready e f = rw (sym A, e, f)
 
 -- ---- the view: an accepted call names one of the map's eight entries, and the entry's data lies in the lent memory
 
@@ -75,11 +29,7 @@ module _ (m : Map) (g : Grid) (memory : List ℕ) (d : ℕ) {v : Verdict} (A : v
   abbrev own : Region
   own = (domain m d).«data»
 
-  pub view_refused : {r : Refusal} → v ≡ Verdict.Refused r → [] ≡ view m g memory d
-  unfolding view
-  view_refused e = rw (sym A, e)
-
-  module _ (e : v ≡ Verdict.Accepted) where
+  module _ (e : v ≡ Ok tt) where
     pub view_part : take (own.end - own.begin) (drop own.begin memory) ≡ view m g memory d
     unfolding view
     view_part = rw (sym A, e)
@@ -88,7 +38,7 @@ module _ (m : Map) (g : Grid) (memory : List ℕ) (d : ℕ) {v : Verdict} (A : v
     unfolding lent_verdict
     view_bounds =
         let last = check (is_domain m.count d) Refusal.NoDomain in
-        let t : accepts m g ▸ as_long m memory ▸ last ≡ Verdict.Accepted = sym A ∙ e in
+        let t : accepts m g ▸ as_long m memory ▸ last ≡ Ok tt = sym A ∙ e in
         let u = then_right (accepts m g) (as_long m memory ▸ last) t in
         let a = acceptable m g (then_left (accepts m g) _ t) in
         let l = eqb-true (length memory) _ (check_true _ Refusal.Memory (then_left (as_long m memory) last u)) in

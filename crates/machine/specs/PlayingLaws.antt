@@ -2,7 +2,7 @@
 --     plays_start, plays_end, plays_broken, plays_whole
 -- Assumes nothing.
 use Prim.Native.Nat.{ℕ, suc, ◌+◌, ◌≤◌, ◌<◌}
-use Rattle.std.specs.Prelude.{◌≡◌, List, drop}
+use Rattle.std.specs.Prelude.{◌≡◌, List, drop, Ok, Err}
 use Rattle.std.proofs.Math.Path.{sym, ap}
 use Rattle.std.proofs.Common.{◌∙◌, add-zero, zero-add}
 use native.Mathlib.Omega.{arith}
@@ -14,10 +14,9 @@ use Rattle.model.specs.Calls.{Left, left, played}
 use Rattle.model.specs.declared.map.Map.{Map}
 use Rattle.model.specs.declared.state.State.{State}
 use Rattle.model.specs.declared.event.Event.{Event}
-use Rattle.model.specs.declared.event.EventRead.{EventRead}
+use Rattle.model.specs.declared.call.Stop.{Stop}
+use Rattle.model.specs.Answers.{refused_at}
 use Rattle.model.specs.declared.refusal.Refusal.{Refusal}
-use Rattle.model.specs.declared.call.Verdict.{Verdict}
-use Rattle.model.specs.declared.call.Close.{Close}
 use Rattle.model.specs.declared.call.Played.{Played}
 use Rattle.machine.specs.Playing.{plays}
 
@@ -29,7 +28,7 @@ module _ (m : Map) (g : Grid) (bytes : List ℕ) where
 
   pub plays_start :
       (s : State) (memory : List ℕ) → let t = trace_of 0 bytes in
-      plays m g bytes 0 0 s memory ≡ played Verdict.Accepted s memory t (run m g s memory t.events)
+      plays m g bytes 0 0 s memory ≡ played (Ok tt) s memory t (run m g s memory t.events)
   unfolding plays
   plays_start s memory =
       let t = trace_of 0 bytes in
@@ -38,23 +37,23 @@ module _ (m : Map) (g : Grid) (bytes : List ℕ) where
 
   module _ (at k : ℕ) (s : State) (memory : List ℕ) where
     pub plays_end :
-        length bytes ≤ at → left (record { close = Close.Done; events = k; state = s }) memory ≡ plays m g bytes at k s memory
+        length bytes ≤ at → left (record { close = Ok tt; events = k; state = s }) memory ≡ plays m g bytes at k s memory
     unfolding plays run
     plays_end h =
         sym (ap (λ t. over t k s memory) (rest_end bytes at h)
-        ∙ ap (λ n. left (record { close = Close.Done; events = n; state = s }) memory) (add-zero k))
+        ∙ ap (λ n. left (record { close = Ok tt; events = n; state = s }) memory) (add-zero k))
 
     module _ (h : at < length bytes) where
       pub plays_broken :
-          (r : Refusal) → event_read (drop at bytes) ≡ EventRead.Broken r
-          → left (record { close = Close.Broken r at; events = k; state = s }) memory ≡ plays m g bytes at k s memory
+          (r : Refusal) → event_read (drop at bytes) ≡ Err r
+          → left (record { close = Err (Stop.Broken (refused_at r at)); events = k; state = s }) memory ≡ plays m g bytes at k s memory
       unfolding plays run
       plays_broken r e =
           sym (ap (λ t. over t k s memory) (rest_broken bytes at h r e)
-          ∙ ap (λ n. left (record { close = Close.Broken r at; events = n; state = s }) memory) (add-zero k))
+          ∙ ap (λ n. left (record { close = Err (Stop.Broken (refused_at r at)); events = n; state = s }) memory) (add-zero k))
 
       pub plays_whole :
-          (e : Event) (n : ℕ) → event_read (drop at bytes) ≡ EventRead.Whole e n
+          (e : Event) (n : ℕ) → event_read (drop at bytes) ≡ Ok (e, n)
           → let o = event m g s memory e in
           plays m g bytes at k s memory ≡ plays m g bytes (at + n) (k + 1) o.state o.memory
       unfolding plays run

@@ -1,30 +1,27 @@
 // One event of a node that was tested.
 ghost use Rattle.std.specs.Prelude.{◌≡◌};
-ghost use Rattle.model.specs.SoundLaws.{Sound};
 ghost use Rattle.model.specs.Events.{gives, event};
 
-use model::MOST;
 use model::event::Event;
-use model::map::Map;
-use model::state::State;
+use rights::count::Count;
 use states::event::{Happened, tick, word_in};
-use stepping::run::run;
+use stepping::node::Node;
 
-pub fn happen(m: Map, g: [[bool; MOST]; MOST], s: State, memory: &mut [u8], e: Event) -> Happened
-    requires { Sound m.count s }
-    ensures { gives result.answer result.state memory.new ≡ event m g s memory.old e }
+#[tactic(auto, unfolding(model::specs::Events::event))]
+pub fn happen(node: Node, memory: &mut [u8], e: Event) -> Happened
+    ensures { gives result.answer result.state memory.new
+        ≡ event node.map node.grid node.state memory.old e }
 {
+    let count = Count { n: node.map.count };
     match e {
         Event::Step => {
-            let done = run(m, g, s, memory, 1);
-            let answer = done.answer;
-            let after = done.state;
+            let done = node.run(memory, 1);
             Happened {
-                answer: answer,
-                state: after,
+                answer: done.answer,
+                state: done.state,
             }
         }
-        Event::Tick => tick(m.count, s),
-        Event::WordIn(b, word) => word_in(m.count, s, b, word),
+        Event::Tick => tick(count, node.state),
+        Event::WordIn(b, word) => word_in(count, node.state, b, word),
     }
 }

@@ -2,7 +2,6 @@
 // looked first: each tests what it is given, in document 01's order, and refuses with the paper's number.
 #![tactic(auto)]
 
-mod count;
 mod happen;
 mod reader;
 mod trace;
@@ -13,55 +12,51 @@ ghost use Rattle.model.specs.Events.{event_read};
 ghost use Rattle.model.specs.Calls.{left, lent_verdict, view, starter, stepper, player, batcher};
 ghost use Rattle.model.specs.declared.event.Event.{Event};
 
-use crate::count::{counted, ending};
 use crate::happen::happen;
 use crate::trace::play_on;
 use crate::verdict::{lent_verdict, node_verdict};
 use model::MOST;
-use model::call::{Batched, Close, Ending, Played, Reply, Started, Stepped, Verdict};
+use model::call::{Batched, Ending, Played, Started, Stepped, Stop, Verdict};
 use model::event::{Event, EventRead};
 use model::map::Map;
 use model::state::State;
 use rights::acceptable;
-use states::start::no_state;
-use stepping::run::run;
+use states::event::Happened;
+use stepping::node::Node;
 
 // The node at its start, or why not: then no domain is active, and every context is zero and halted.
+#[tactic(auto, unfolding(model::specs::Calls::starter))]
 pub fn start(m: Map, g: [[bool; MOST]; MOST]) -> Started
     ensures { result ≡ starter m g }
 {
     let verdict = acceptable(m, g);
-    match verdict {
-        Verdict::Refused(_) => Started {
-            verdict: verdict,
-            state: no_state(),
-        },
-        Verdict::Accepted => Started {
-            verdict: verdict,
-            state: states::start::start(m),
-        },
-    }
+    let state = match verdict {
+        Ok(()) => states::start::start(m),
+        Err(_) => states::start::no_state(),
+    };
+    Started { verdict, state }
 }
 
 // One event: its answer and the state after it, or a refusal with the state as it came and no byte set.
+#[tactic(auto, unfolding(model::specs::Calls::stepper))]
 pub fn event(m: Map, g: [[bool; MOST]; MOST], s: State, memory: &mut [u8], e: Event) -> Stepped
     ensures { left result memory.new ≡ stepper m g s memory.old e }
 {
-    let verdict = node_verdict(m, g, s, memory);
-    match verdict {
-        Verdict::Refused(r) => Stepped {
-            reply: Reply::Refused(r),
+    if let Err(r) = node_verdict(m, g, s, memory) {
+        return Stepped {
+            reply: Err(r),
             state: s,
-        },
-        Verdict::Accepted => {
-            let done = happen(m, g, s, memory, e);
-            let answer = done.answer;
-            let after = done.state;
-            Stepped {
-                reply: Reply::Answered(answer),
-                state: after,
-            }
-        }
+        };
+    }
+    let node = Node {
+        map: m,
+        grid: g,
+        state: s,
+    };
+    let Happened { answer, state } = happen(node, memory, e);
+    Stepped {
+        reply: Ok(answer),
+        state,
     }
 }
 
@@ -101,42 +96,53 @@ pub fn read_event(bytes: &[u8]) -> EventRead
 }
 
 // The events of a trace, up to its end or its first broken record.
+#[tactic(auto, unfolding(model::specs::Calls::player))]
 pub fn play(m: Map, g: [[bool; MOST]; MOST], s: State, memory: &mut [u8], trace: &[u8]) -> Played
     ensures { left result memory.new ≡ player m g s memory.old trace.now }
 {
-    let verdict = node_verdict(m, g, s, memory);
-    match verdict {
-        Verdict::Refused(r) => Played {
-            close: Close::Refused(r),
+    if let Err(r) = node_verdict(m, g, s, memory) {
+        return Played {
+            close: Err(Stop::Refused(r)),
             events: 0,
             state: s,
-        },
-        Verdict::Accepted => play_on(m, g, s, memory, trace),
+        };
     }
+    let node = Node {
+        map: m,
+        grid: g,
+        state: s,
+    };
+    play_on(node, memory, trace)
 }
 
 // As many steps as the limit, or fewer if the node becomes idle; how many were done is returned.
+#[tactic(auto, unfolding(model::specs::Calls::batcher))]
 pub fn batch(m: Map, g: [[bool; MOST]; MOST], s: State, memory: &mut [u8], limit: u64) -> Batched
     ensures { left result memory.new ≡ batcher m g s memory.old limit }
 {
-    let verdict = node_verdict(m, g, s, memory);
-    match verdict {
-        Verdict::Refused(r) => Batched {
-            ending: Ending::Refused(r),
+    if let Err(r) = node_verdict(m, g, s, memory) {
+        return Batched {
+            ending: Err(r),
             steps: 0,
             state: s,
-        },
-        Verdict::Accepted => {
-            let done = run(m, g, s, memory, limit);
-            let steps = counted(limit, done.left);
-            let ending = ending(done.left);
-            let last = done.state;
-            Batched {
-                ending: ending,
-                steps: steps,
-                state: last,
-            }
-        }
+        };
+    }
+    let node = Node {
+        map: m,
+        grid: g,
+        state: s,
+    };
+    let done = node.run(memory, limit);
+    // ""spent" if that equals the limit, else "idle"": nothing is left of the limit
+    let ending = if done.left == 0 {
+        Ending::Spent
+    } else {
+        Ending::Idle
+    };
+    Batched {
+        ending: Ok(ending),
+        steps: limit - done.left,
+        state: done.state,
     }
 }
 
@@ -148,18 +154,15 @@ pub fn view_verdict(m: Map, g: [[bool; MOST]; MOST], memory: &[u8], d: u8) -> Ve
 }
 
 // The data sub-region of domain d as that part of the lent memory, and the empty part at its front where the companion call refuses.
+#[tactic(auto, unfolding(model::specs::Calls::view))]
 pub fn view(m: Map, g: [[bool; MOST]; MOST], memory: &[u8], d: u8) -> &[u8]
     ensures { result.now ≡ view m g memory.now d }
 {
-    let verdict = lent_verdict(m, g, memory, d);
-    match verdict {
-        Verdict::Refused(_) => &memory[..0],
-        Verdict::Accepted => {
-            let own = m.domains[(d as usize) - 1];
-            let data = own.data;
-            let begin = data.begin as usize;
-            let end = data.end as usize;
-            &memory[begin..end]
+    match lent_verdict(m, g, memory, d) {
+        Err(_) => &memory[..0],
+        Ok(()) => {
+            let data = m.domains[usize::from(d) - 1].data;
+            &memory[data.begin as usize..data.end as usize]
         }
     }
 }

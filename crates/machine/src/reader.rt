@@ -2,7 +2,6 @@
 ghost use Rattle.std.specs.Prelude.{◌≡◌};
 ghost use Rattle.model.specs.Events.{word_event, event_read};
 
-use instructions::byte::{byte, number};
 use model::event::{Event, EventRead};
 use model::refusal::Refusal;
 
@@ -10,28 +9,25 @@ use model::refusal::Refusal;
 fn word_event(bytes: &[u8]) -> EventRead
     ensures { result ≡ word_event bytes.now }
 {
-    if 6 <= bytes.len() {
-        return EventRead::Whole(Event::WordIn(byte(bytes, 1), number(bytes, 2)), 6);
-    }
-    EventRead::Broken(Refusal::EventShort)
+    let [_, b, w, x, y, z, ..] = bytes else {
+        return Err(Refusal::EventShort);
+    };
+    let word = u32::from_le_bytes([*w, *x, *y, *z]);
+    Ok((Event::WordIn(*b, word), 6))
 }
 
 // The event at the front of the bytes and how many it takes, or 11 or 12.
+#[tactic(auto, unfolding(model::specs::Events::event_read))]
 pub fn event_at_front(bytes: &[u8]) -> EventRead
     ensures { result ≡ event_read bytes.now }
 {
-    if bytes.len() == 0 {
-        return EventRead::Broken(Refusal::EventShort);
+    let Some(&kind) = bytes.first() else {
+        return Err(Refusal::EventShort);
+    };
+    match kind {
+        1 => Ok((Event::Step, 1)),
+        2 => Ok((Event::Tick, 1)),
+        3 => word_event(bytes),
+        _ => Err(Refusal::EventKind),
     }
-    let kind = byte(bytes, 0);
-    if kind == 1 {
-        return EventRead::Whole(Event::Step, 1);
-    }
-    if kind == 2 {
-        return EventRead::Whole(Event::Tick, 1);
-    }
-    if kind == 3 {
-        return word_event(bytes);
-    }
-    EventRead::Broken(Refusal::EventKind)
 }

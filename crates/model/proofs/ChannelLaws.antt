@@ -5,7 +5,7 @@
 --     channels_known        what a reading of them tells: written again, they are the bytes that were read
 -- Assumes nothing.
 use Prim.Native.Nat.{ℕ, zero, suc, ◌+◌, ◌-◌, ◌*◌, ◌≤◌, ◌<◌}
-use Rattle.std.specs.Prelude.{◌≡◌, refl, false, leb, ltb, eqb, length}
+use Rattle.std.specs.Prelude.{◌≡◌, refl, false, leb, ltb, eqb, length, Ok, Err}
 use Rattle.std.proofs.Common.{sym, ◌∙◌, arith, ltb-true, ltb-false, leb-true, le-leb, eqb-true}
 use Rattle.std.proofs.Math.Path.{ap}
 use Rattle.std.proofs.Math.Bool.{true}
@@ -20,7 +20,7 @@ use Rattle.model.specs.GridLaws.{Square, Ends, Unmarked, marks}
 use Rattle.model.proofs.GridLaws.{no_grid_square, no_grid_unmarked, channel_ends, grid_equal, from_place, to_place, place_ends, mark_square, mark_there, mark_elsewhere}
 use Rattle.model.specs.declared.map.Map.{Map}
 use Rattle.model.specs.declared.refusal.Refusal.{Refusal}
-use Rattle.model.specs.declared.call.Verdict.{Verdict}
+use Rattle.model.specs.Answers.{Verdict}
 use Rattle.model.specs.ChannelLaws.{closing, Channelled}
 
 pub channels_length : (g : Grid) (p n : ℕ) → length (channel_records g p n) ≡ 3 * marks g p n
@@ -105,9 +105,9 @@ not_refused r at m g e = let z : ◌≡◌ {A = ℕ} 0 1 = cc in absurd (omega a
 
 pub judged_known :
     (at : ℕ) (v : Verdict) (go : Found) (m : Map) (g : Grid) → judged at v go ≡ Found.whole m g
-    → (v ≡ Verdict.Accepted) × (go ≡ Found.whole m g)
-judged_known at Verdict.Accepted go m g e = (refl, e)
-judged_known at (Verdict.Refused r) go m g e = not_refused r at m g e
+    → (v ≡ Ok tt) × (go ≡ Found.whole m g)
+judged_known at (Ok tt) go m g e = (refl, e)
+judged_known at (Err r) go m g e = not_refused r at m g e
 
 kind_known :
     {A : Type 0} (at k : ℕ) (four five : Found) (m : Map) (g : Grid) → four_or_five at k four five ≡ Found.whole m g

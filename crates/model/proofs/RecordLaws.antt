@@ -4,7 +4,7 @@
 --     length_spelt, kernel_spelt, domain_spelt   a record read and written again
 --     body_present, body_known, record_known     what the reader does where a body is there, and what it tells
 -- Assumes nothing.
-use Rattle.std.specs.Prelude.{ℕ, suc, ◌+◌, ◌≤◌, ◌<◌, ◌≡◌, true, List, [], ◌∷◌, ◌++◌, leb, eqb, length, get_or, take, drop}
+use Rattle.std.specs.Prelude.{ℕ, suc, ◌+◌, ◌≤◌, ◌<◌, ◌≡◌, true, List, [], ◌∷◌, ◌++◌, leb, eqb, length, get_or, take, drop, Ok}
 use Rattle.std.proofs.Common.{ap, ◌∙◌, add-one, arith, get_or-take, get_or-drop, drop-cons, leb-true, le-leb, eqb-true}
 use Rattle.std.proofs.Math.Numerals.{add-two, add-three, add-four}
 use Rattle.model.specs.Basics.{bytes, number}
@@ -19,7 +19,6 @@ use Rattle.model.specs.declared.map.Region.{Region}
 use Rattle.model.specs.declared.map.Domain.{Domain}
 use Rattle.model.specs.declared.map.Map.{Map}
 use Rattle.model.specs.declared.refusal.Refusal.{Refusal}
-use Rattle.model.specs.declared.call.Verdict.{Verdict}
 use Rattle.model.specs.RecordLaws.{Narrow, Small, Octets, Present}
 
 -- ---- numbers that four bytes hold
@@ -30,7 +29,7 @@ within_narrow n r h e =
     let b = leb-true r.end n (and_right (leb r.begin r.end) _ e) in
     omega arith
 
-pub verdict_small : (m : Map) (i : ℕ) (d : Domain) → m.length ≤ 65536 → domain_verdict m i d ≡ Verdict.Accepted → Small d
+pub verdict_small : (m : Map) (i : ℕ) (d : Domain) → m.length ≤ 65536 → domain_verdict m i d ≡ Ok tt → Small d
 verdict_small m i d h e =
     let p = placed m i d e in
     let n = within_narrow m.length d.code h p.code in

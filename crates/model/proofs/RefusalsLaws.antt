@@ -1,7 +1,7 @@
 -- Laws of Refusals: what acceptance tells.
 --     Acceptable            the facts that `accepts m g ≡ Accepted` gives, by `acceptable`, and that give it, by `accept`
 -- Assumes nothing.
-use Rattle.std.specs.Prelude.{ℕ, zero, suc, ◌+◌, ◌*◌, ◌≤◌, ◌<◌, ◌≡◌, refl, Bool, true, false, ◌&&◌, not, leb, ltb}
+use Rattle.std.specs.Prelude.{ℕ, zero, suc, ◌+◌, ◌*◌, ◌≤◌, ◌<◌, ◌≡◌, refl, Bool, true, false, ◌&&◌, not, leb, ltb, Ok, Err}
 use Rattle.std.proofs.Common.{arith, add-zero, zero-add, ltb-true, ltb-false, leb-true, le-leb}
 use Rattle.model.specs.Map.{most, inside, overlaps, Grid, nth}
 use Rattle.model.specs.Refusals.{check, ◌▸◌, counted, unused_zero, sized, within, free_of, clear, domain_verdict, domains_verdict, channels_good, map_verdict, accepts}
@@ -10,28 +10,28 @@ use Rattle.model.specs.declared.map.Region.{Region}
 use Rattle.model.specs.declared.map.Domain.{Domain}
 use Rattle.model.specs.declared.map.Map.{Map}
 use Rattle.model.specs.declared.refusal.Refusal.{Refusal}
-use Rattle.model.specs.declared.call.Verdict.{Verdict}
+use Rattle.model.specs.Answers.{Verdict}
 use Rattle.model.specs.RefusalsLaws.{DomainAccepted, cell_good, entry_good, Acceptable, Placed}
 
-pub check_true : (b : Bool) (r : Refusal) → check b r ≡ Verdict.Accepted → b ≡ true
+pub check_true : (b : Bool) (r : Refusal) → check b r ≡ Ok tt → b ≡ true
 check_true true r e = refl
 check_true false r e = cc
 
-pub then_left : (v w : Verdict) → v ▸ w ≡ Verdict.Accepted → v ≡ Verdict.Accepted
-then_left Verdict.Accepted w e = refl
-then_left (Verdict.Refused r) w e = e
+pub then_left : (v w : Verdict) → v ▸ w ≡ Ok tt → v ≡ Ok tt
+then_left (Ok tt) w e = refl
+then_left (Err r) w e = e
 
-pub then_right : (v w : Verdict) → v ▸ w ≡ Verdict.Accepted → w ≡ Verdict.Accepted
-then_right Verdict.Accepted w e = e
-then_right (Verdict.Refused r) w e = cc
+pub then_right : (v w : Verdict) → v ▸ w ≡ Ok tt → w ≡ Ok tt
+then_right (Ok tt) w e = e
+then_right (Err r) w e = cc
 
-pub then_both : {v w : Verdict} → v ≡ Verdict.Accepted → w ≡ Verdict.Accepted → v ▸ w ≡ Verdict.Accepted
+pub then_both : {v w : Verdict} → v ≡ Ok tt → w ≡ Ok tt → v ▸ w ≡ Ok tt
 then_both e f = rw e f
 
-pub check_both : {b : Bool} {w : Verdict} (r : Refusal) → b ≡ true → w ≡ Verdict.Accepted → check b r ▸ w ≡ Verdict.Accepted
+pub check_both : {b : Bool} {w : Verdict} (r : Refusal) → b ≡ true → w ≡ Ok tt → check b r ▸ w ≡ Ok tt
 check_both r e f = rw e f
 
-domain_at : (m : Map) (i n k : ℕ) → domains_verdict m i n ≡ Verdict.Accepted → k < n → DomainAccepted m (i + k)
+domain_at : (m : Map) (i n k : ℕ) → domains_verdict m i n ≡ Ok tt → k < n → DomainAccepted m (i + k)
 unfolding domains_verdict
 domain_at m i zero k e h = absurd (omega arith)
 domain_at m i (suc n) zero e h = rw add-zero (then_left _ (domains_verdict m (i + 1) n) e)
@@ -40,7 +40,7 @@ domain_at m i (suc n) (suc k) e h =
     rw p at (domain_at m (i + 1) n k (then_right (domain_verdict m i (nth m i)) _ e) (omega arith))
 
 domains_from :
-    (m : Map) (i n : ℕ) → ((k : ℕ) → i ≤ k → k < i + n → DomainAccepted m k) → domains_verdict m i n ≡ Verdict.Accepted
+    (m : Map) (i n : ℕ) → ((k : ℕ) → i ≤ k → k < i + n → DomainAccepted m k) → domains_verdict m i n ≡ Ok tt
 unfolding domains_verdict
 domains_from m i zero h = refl
 domains_from m i (suc n) h =
@@ -74,7 +74,7 @@ unfolding unused_zero
 entries_from m zero h = refl
 entries_from m (suc n) h = and_both (h n (omega arith)) (entries_from m n (λ k a. h k (omega arith)))
 
-pub acceptable : (m : Map) (g : Grid) → accepts m g ≡ Verdict.Accepted → Acceptable m g
+pub acceptable : (m : Map) (g : Grid) → accepts m g ≡ Ok tt → Acceptable m g
 unfolding accepts map_verdict
 acceptable m g e =
     let a = then_left (map_verdict m) (check (channels_good m.count g 0 (most * most)) Refusal.Channel) e in
@@ -100,7 +100,7 @@ acceptable m g e =
       channels = λ p h. rw zero-add at (cell_at m.count g 0 (most * most) p (check_true _ Refusal.Channel z) h);
     }
 
-pub accept : (m : Map) (g : Grid) → Acceptable m g → accepts m g ≡ Verdict.Accepted
+pub accept : (m : Map) (g : Grid) → Acceptable m g → accepts m g ≡ Ok tt
 unfolding accepts map_verdict
 accept m g a =
     then_both
@@ -112,7 +112,7 @@ accept m g a =
 
 -- ---- what an accepted domain that stands after the first i tells
 
-pub placed : (m : Map) (i : ℕ) (d : Domain) → domain_verdict m i d ≡ Verdict.Accepted → Placed m i d
+pub placed : (m : Map) (i : ℕ) (d : Domain) → domain_verdict m i d ≡ Ok tt → Placed m i d
 unfolding domain_verdict
 placed m i d e =
     let v₅ = check (clear m d.«data» i && not (overlaps d.«data» d.code)) Refusal.Overlap in

@@ -5,7 +5,7 @@
 --     domains_known         what a reading of them tells: written again, they are the bytes that were read
 -- Assumes nothing.
 use Prim.Native.Nat.{ℕ, zero, suc, ◌+◌, ◌*◌, ◌≤◌, ◌<◌}
-use Rattle.std.specs.Prelude.{◌≡◌, ◌≢◌, true, ◌&&◌, not, ltb, eqb, take, drop}
+use Rattle.std.specs.Prelude.{◌≡◌, ◌≢◌, true, ◌&&◌, not, ltb, eqb, take, drop, Ok}
 use Rattle.std.proofs.Math.Path.{refl, ap}
 use Rattle.std.proofs.Common.{sym, ◌∙◌, arith, length-set, length-append, get_or-set_same, get_or-set_other, ext_get_or}
 use mathlib.Core.List.{List, [], ◌∷◌, ◌++◌}
@@ -27,7 +27,7 @@ use Rattle.model.specs.declared.map.Region.{Region}
 use Rattle.model.specs.declared.map.Domain.{Domain}
 use Rattle.model.specs.declared.map.Map.{Map}
 use Rattle.model.specs.declared.refusal.Refusal.{Refusal}
-use Rattle.model.specs.declared.call.Verdict.{Verdict}
+use Rattle.model.specs.Answers.{Verdict}
 use Rattle.model.specs.SheetLaws.{Agree, Reading, Domained}
 
 -- the reader at a domain record
@@ -179,7 +179,7 @@ module _ (m : Map) (g : Grid) where
       }
 
   domains_more :
-      (q : Map) (d : Domain) (rest bs : List ℕ) → Reading q → q.count < most → domain_verdict q q.count d ≡ Verdict.Accepted
+      (q : Map) (d : Domain) (rest bs : List ℕ) → Reading q → q.count < most → domain_verdict q q.count d ≡ Ok tt
       → domain_record d ++ rest ≡ bs → Domained (with_domain q d) rest m g → Domained q bs m g
   unfolding domain_records
   domains_more q d rest bs r room v e c =

@@ -1,6 +1,6 @@
 -- Document 01, "Events".
 -- Assumes nothing.
-use Rattle.std.specs.Prelude.{ℕ, zero, suc, ◌+◌, ◌&&◌, List, [], ◌∷◌, leb, eqb, length, get_or, drop, if◌then◌else◌}
+use Rattle.std.specs.Prelude.{ℕ, zero, suc, ◌+◌, ◌&&◌, List, [], ◌∷◌, leb, eqb, length, get_or, drop, if◌then◌else◌, Ok, Err}
 use Rattle.model.specs.Basics.{number}
 use Rattle.model.specs.Map.{Grid, is_domain, rights}
 use Rattle.model.specs.States.{full, is_waiting, set_register, with_status, received, context, put, own, put_own, with_active, switch}
@@ -11,9 +11,9 @@ use Rattle.model.specs.declared.state.Context.{Context}
 use Rattle.model.specs.declared.state.State.{State}
 use Rattle.model.specs.declared.event.Event.{Event}
 use Rattle.model.specs.declared.event.Answer.{Answer}
-use Rattle.model.specs.declared.event.EventRead.{EventRead}
+use Rattle.model.specs.declared.call.Stop.{Stop}
+use Rattle.model.specs.Answers.{EventRead, Close, refused_at}
 use Rattle.model.specs.declared.refusal.Refusal.{Refusal}
-use Rattle.model.specs.declared.call.Close.{Close}
 use Rattle.model.specs.declared.call.Ending.{Ending}
 
 -- ---- a step
@@ -112,17 +112,17 @@ run m g s memory (e ∷ es) = let o = event m g s memory e in then_run o (run m 
 abbrev pub word_event : List ℕ → EventRead
 word_event s =
     if leb 6 (length s)
-    then EventRead.Whole (Event.WordIn (get_or s 1 0) (number s 2)) 6
-    else EventRead.Broken Refusal.EventShort
+    then Ok (Event.WordIn (get_or s 1 0) (number s 2), 6)
+    else Err Refusal.EventShort
 
 abbrev pub of_kind : ℕ → List ℕ → EventRead
 of_kind kind s =
-    if eqb kind 1 then EventRead.Whole Event.Step 1
-    else (if eqb kind 2 then EventRead.Whole Event.Tick 1
-    else (if eqb kind 3 then word_event s else EventRead.Broken Refusal.EventKind))
+    if eqb kind 1 then Ok (Event.Step, 1)
+    else (if eqb kind 2 then Ok (Event.Tick, 1)
+    else (if eqb kind 3 then word_event s else Err Refusal.EventKind))
 
 unfoldable pub event_read : List ℕ → EventRead
-event_read [] = EventRead.Broken Refusal.EventShort
+event_read [] = Err Refusal.EventShort
 event_read (kind ∷ rest) = of_kind kind (kind ∷ rest)
 
 pub record Trace : Type 0 where
@@ -136,17 +136,17 @@ abbrev pub follow : Event → Trace → Trace
 follow e t = record { events = e ∷ t.events; close = t.close }
 
 abbrev pub next : ℕ → EventRead → (ℕ → Trace) → Trace
-next at (EventRead.Whole e n) go = follow e (go n)
-next at (EventRead.Broken r) go = ended (Close.Broken r at)
+next at (Ok (e, n)) go = follow e (go n)
+next at (Err r) go = ended (Err (Stop.Broken (refused_at r at)))
 
 abbrev pub at_end : List ℕ → Trace → Trace
-at_end [] t = ended Close.Done
+at_end [] t = ended (Ok tt)
 at_end (b ∷ rest) t = t
 
 -- "Playing a trace stops at its first broken record with 11 or 12, its offset and the events done": the events before it, and how it closes.
 -- A record takes a byte at least, so as many rounds as there are bytes are enough (`rounds_enough`)
 unfoldable pub trace : ℕ → ℕ → List ℕ → Trace
-trace zero at s = ended Close.Done
+trace zero at s = ended (Ok tt)
 trace (suc rounds) at s =
     let t = next at (event_read s) (λ n. trace rounds (at + n) (drop n s)) in at_end s t
 

@@ -1,6 +1,7 @@
 -- The meaning of document 01, a file for each of its sections. Laws of each are in proofs/; the words that these laws need are in the files ..Laws here:
 --     Basics         the words that all of them use
 --     Map            "Map and access"
+--     Answers        what the calls return, where it is a Result
 --     Refusals       "Refusal numbers": the numbers, and how a map is tested
 --     Sheet          "The sheet"; the words of its laws by subject, the grid, channel records, one record, domain records
 --     States         "The state"; the words of its laws by subject, contexts, the switch, what keeps a state well formed
@@ -14,6 +15,7 @@
 pub mod Basics
 pub mod Map
 pub mod MapEdges
+pub mod Answers
 pub mod Refusals
 pub mod RefusalsLaws
 pub mod Sheet

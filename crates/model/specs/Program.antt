@@ -1,7 +1,7 @@
 -- Document 01, "The program": what it prints for a sheet, a memory and a trace, as bytes of ASCII. Cutting the files to their first bytes
 -- is the program's own.
 -- Assumes nothing.
-use Rattle.std.specs.Prelude.{ℕ, zero, suc, ◌+◌, ◌/◌, ◌%◌, min, List, [], ◌∷◌, ◌++◌, ltb, length, take, drop, if◌then◌else◌}
+use Rattle.std.specs.Prelude.{ℕ, zero, suc, ◌+◌, ◌/◌, ◌%◌, min, List, [], ◌∷◌, ◌++◌, ltb, length, take, drop, if◌then◌else◌, Ok, Err}
 use Prim.Native.String.{String, [] as empty, ◌∷◌ as ◌∷ᵗ◌}
 use Prim.Native.Char.{code}
 use Rattle.model.specs.Map.{Grid}
@@ -14,8 +14,8 @@ use Rattle.model.specs.declared.map.Map.{Map}
 use Rattle.model.specs.declared.state.Reason.{Reason}
 use Rattle.model.specs.declared.event.Answer.{Answer}
 use Rattle.model.specs.declared.refusal.Refusal.{Refusal}
-use Rattle.model.specs.declared.call.Verdict.{Verdict}
-use Rattle.model.specs.declared.call.Close.{Close}
+use Rattle.model.specs.declared.call.Stop.{Stop}
+use Rattle.model.specs.Answers.{Verdict, Close}
 
 -- ---- words and numbers
 
@@ -75,9 +75,9 @@ unfoldable pub refusal_at_line : Refusal → ℕ → List ℕ
 refusal_at_line r at = decimal (refusal_number r) ++ (words " at " ++ decimal at) ++ words "\n"
 
 abbrev pub close_line : Close → List ℕ
-close_line Close.Done = []
-close_line (Close.Broken r at) = refusal_at_line r at
-close_line (Close.Refused r) = refusal_line r
+close_line (Ok tt) = []
+close_line (Err (Stop.Broken f)) = refusal_at_line f.refusal f.at
+close_line (Err (Stop.Refused r)) = refusal_line r
 
 -- ---- the whole
 
@@ -98,8 +98,8 @@ of_trace m g memory bytes = let t = trace_of 0 bytes in of_run 0 t (run m g (sta
 
 -- "for the others it is all that is printed"
 abbrev pub unless_refused : Verdict → List ℕ → Printed → Printed
-unless_refused Verdict.Accepted memory p = p
-unless_refused (Verdict.Refused r) memory p = prints (refusal_line r) memory
+unless_refused (Ok tt) memory p = p
+unless_refused (Err r) memory p = prints (refusal_line r) memory
 
 abbrev pub of_sheet : Found → List ℕ → List ℕ → Printed
 of_sheet (Found.whole m g) memory bytes = unless_refused (as_long m memory) memory (of_trace m g memory bytes)

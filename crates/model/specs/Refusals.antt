@@ -1,12 +1,12 @@
 -- Document 01, "Refusal numbers".
 -- Assumes nothing.
-use Rattle.std.specs.Prelude.{ℕ, zero, suc, ◌+◌, ◌*◌, ◌/◌, ◌%◌, Bool, true, false, ◌&&◌, ◌||◌, not, leb, ltb, eqb}
+use Rattle.std.specs.Prelude.{ℕ, zero, suc, ◌+◌, ◌*◌, ◌/◌, ◌%◌, Bool, true, false, ◌&&◌, ◌||◌, not, leb, ltb, eqb, Ok, Err}
 use Rattle.model.specs.Map.{most, inside, overlaps, nth, Grid, marked, is_domain}
 use Rattle.model.specs.declared.map.Region.{Region}
 use Rattle.model.specs.declared.map.Domain.{Domain}
 use Rattle.model.specs.declared.map.Map.{Map}
 use Rattle.model.specs.declared.refusal.Refusal.{Refusal}
-use Rattle.model.specs.declared.call.Verdict.{Verdict}
+use Rattle.model.specs.Answers.{Verdict}
 
 -- the table's first column
 abbrev pub refusal_number : Refusal → ℕ
@@ -27,18 +27,18 @@ refusal_number Refusal.NoDomain = 14
 
 -- a verdict by the table's number; 0, which is none of them, where nothing is refused
 abbrev pub verdict_number : Verdict → ℕ
-verdict_number Verdict.Accepted = 0
-verdict_number (Verdict.Refused r) = refusal_number r
+verdict_number (Ok tt) = 0
+verdict_number (Err r) = refusal_number r
 
 -- one test and the refusal where it fails; one verdict and, where it accepts, the next
 abbrev pub check : Bool → Refusal → Verdict
-check true r = Verdict.Accepted
-check false r = Verdict.Refused r
+check true r = Ok tt
+check false r = Err r
 
 infixr 20 ◌▸◌
 abbrev pub ◌▸◌ : Verdict → Verdict → Verdict
-Verdict.Accepted ▸ w = w
-Verdict.Refused r ▸ w = Verdict.Refused r
+Ok tt ▸ w = w
+Err r ▸ w = Err r
 
 -- 2: "domain count not 1 to 8; an unused map entry not all zero"
 abbrev pub counted : ℕ → Bool
@@ -82,7 +82,7 @@ domain_verdict m i d =
 
 -- for n domains in turn, from the one after the first i
 unfoldable pub domains_verdict : Map → ℕ → ℕ → Verdict
-domains_verdict m i zero = Verdict.Accepted
+domains_verdict m i zero = Ok tt
 domains_verdict m i (suc n) = let rest = domains_verdict m (i + 1) n in domain_verdict m i (nth m i) ▸ rest
 
 -- the grid's cells are counted row by row: cell p is row p / 8, column p % 8

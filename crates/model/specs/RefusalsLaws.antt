@@ -1,16 +1,15 @@
 -- What acceptance tells, as facts: the words of the laws in proofs/RefusalsLaws.antt.
 --     Acceptable            the facts that `accepts m g ≡ Accepted` gives;   Placed: those of one domain
 -- Assumes nothing.
-use Rattle.std.specs.Prelude.{ℕ, ◌*◌, ◌≤◌, ◌<◌, ◌≡◌, Bool, true, ◌||◌, not, ltb}
+use Rattle.std.specs.Prelude.{ℕ, ◌*◌, ◌≤◌, ◌<◌, ◌≡◌, Bool, true, ◌||◌, not, ltb, Ok}
 use Rattle.model.specs.Map.{most, inside, overlaps, Grid, nth}
 use Rattle.model.specs.Refusals.{zero_domain, within, clear, domain_verdict, cell, from, to, is_channel}
 use Rattle.model.specs.declared.map.Domain.{Domain}
 use Rattle.model.specs.declared.map.Map.{Map}
-use Rattle.model.specs.declared.call.Verdict.{Verdict}
 
 -- a run of domains is accepted exactly if each of them is
 abbrev pub DomainAccepted : Map → ℕ → Type 0
-DomainAccepted m k = domain_verdict m k (nth m k) ≡ Verdict.Accepted
+DomainAccepted m k = domain_verdict m k (nth m k) ≡ Ok tt
 
 -- a run of cells is good exactly if each of them is
 abbrev pub cell_good : ℕ → Grid → ℕ → Bool

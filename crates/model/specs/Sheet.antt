@@ -1,6 +1,6 @@
 -- Document 01, "The sheet".
 -- Assumes nothing.
-use Rattle.std.specs.Prelude.{ℕ, zero, suc, ◌+◌, ◌-◌, ◌*◌, Bool, true, ◌&&◌, List, [], ◌∷◌, ◌++◌, leb, eqb, length, get_or, set, take, drop, if◌then◌else◌}
+use Rattle.std.specs.Prelude.{ℕ, zero, suc, ◌+◌, ◌-◌, ◌*◌, Bool, true, ◌&&◌, List, [], ◌∷◌, ◌++◌, leb, eqb, length, get_or, set, take, drop, if◌then◌else◌, Ok, Err}
 use Rattle.model.specs.Basics.{bytes, number}
 use Rattle.model.specs.Map.{most, nth, no_map, Grid, no_grid}
 use Rattle.model.specs.Refusals.{check, sized, within, domain_verdict, cell, from, to, is_channel}
@@ -8,7 +8,7 @@ use Rattle.model.specs.declared.map.Region.{Region}
 use Rattle.model.specs.declared.map.Domain.{Domain}
 use Rattle.model.specs.declared.map.Map.{Map}
 use Rattle.model.specs.declared.refusal.Refusal.{Refusal}
-use Rattle.model.specs.declared.call.Verdict.{Verdict}
+use Rattle.model.specs.Answers.{Verdict}
 
 -- ---- writing: a record's kind byte and its body, in the table's order
 
@@ -52,8 +52,8 @@ body at size rest go = if leb size (length rest) then go (take size rest) (drop 
 
 -- "then the values in number order"
 abbrev pub judged : ℕ → Verdict → Found → Found
-judged at Verdict.Accepted go = go
-judged at (Verdict.Refused r) go = refused r at
+judged at (Ok tt) go = go
+judged at (Err r) go = refused r at
 
 -- one record of one kind: "kind byte present (1), kind allowed (2), body present (1)"
 abbrev pub one_record : ℕ → ℕ → ℕ → List ℕ → (List ℕ → List ℕ → Found) → Found

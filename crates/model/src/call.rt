@@ -1,44 +1,26 @@
-// What the public calls return. An enum holds no array, so a map or a state stands beside it in a struct.
+// What the public calls return. Where document 01 has a map or a state stand beside a refusal, a struct holds the two.
 use crate::event::Answer;
 use crate::map::Map;
-use crate::refusal::Refusal;
+use crate::refusal::{Refusal, RefusedAt};
 use crate::state::State;
 
 // Is it acceptable; and the companion call of the view.
-#[derive(Clone, Copy, PartialEq, Eq, Debug)]
-pub enum Verdict {
-    Accepted,
-    Refused(Refusal),
-}
+pub type Verdict = Result<(), Refusal>;
 
 // The question: may domain d read, write or fetch address a.
-#[derive(Clone, Copy, PartialEq, Eq, Debug)]
-pub enum Permission {
-    Yes,
-    No,
-    Refused(Refusal),
-}
+pub type Permission = Result<bool, Refusal>;
 
-// A sheet's reader: a refusal has the offset of its record.
-#[derive(Clone, Copy, PartialEq, Eq, Debug)]
-pub enum Reading {
-    Whole,
-    Refused(Refusal, usize),
-}
-
+// "On refusal the map is all zero": a map stands beside a refusal too.
 #[derive(Clone, Copy, PartialEq, Eq, Debug)]
 pub struct Sheet {
-    pub reading: Reading,
+    pub reading: Result<(), RefusedAt>,
     pub map: Map,
 }
 
 // A sheet's writer: how many bytes it set.
-#[derive(Clone, Copy, PartialEq, Eq, Debug)]
-pub enum Writing {
-    Wrote(usize),
-    Refused(Refusal),
-}
+pub type Writing = Result<usize, Refusal>;
 
+// "a refused start gives active 0 and every context zero and halted": a state stands beside a refusal too.
 #[derive(Clone, Copy, PartialEq, Eq, Debug)]
 pub struct Started {
     pub verdict: Verdict,
@@ -46,43 +28,39 @@ pub struct Started {
 }
 
 // Step, tick, word-in and event.
-#[derive(Clone, Copy, PartialEq, Eq, Debug)]
-pub enum Reply {
-    Answered(Answer),
-    Refused(Refusal),
-}
+pub type Reply = Result<Answer, Refusal>;
 
+// "gives back state, map and grid as they came": here, in `Played` and in `Batched` the state stands beside a refusal too.
 #[derive(Clone, Copy, PartialEq, Eq, Debug)]
 pub struct Stepped {
     pub reply: Reply,
     pub state: State,
 }
 
-// Playing a trace: to its end, or to its first broken record, with 11 or 12 and the record's offset.
+// Why a trace was not played to its end: 11 or 12 at its first broken record, or a refusal of the node before any event.
 #[derive(Clone, Copy, PartialEq, Eq, Debug)]
-pub enum Close {
-    Done,
-    Broken(Refusal, usize),
+pub enum Stop {
+    Broken(RefusedAt),
     Refused(Refusal),
 }
 
 #[derive(Clone, Copy, PartialEq, Eq, Debug)]
 pub struct Played {
-    pub close: Close,
+    pub close: Result<(), Stop>,
     pub events: usize,
     pub state: State,
 }
 
+// How a batch that was not refused ends.
 #[derive(Clone, Copy, PartialEq, Eq, Debug)]
 pub enum Ending {
     Spent,
     Idle,
-    Refused(Refusal),
 }
 
 #[derive(Clone, Copy, PartialEq, Eq, Debug)]
 pub struct Batched {
-    pub ending: Ending,
+    pub ending: Result<Ending, Refusal>,
     pub steps: u64,
     pub state: State,
 }

@@ -23,8 +23,4 @@ pub enum Answer {
 }
 
 // What stands at the front of a trace: an event and how many bytes it takes, or 11 or 12.
-#[derive(Clone, Copy, PartialEq, Eq, Debug)]
-pub enum EventRead {
-    Whole(Event, usize),
-    Broken(Refusal),
-}
+pub type EventRead = Result<(Event, usize), Refusal>;

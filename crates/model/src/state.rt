@@ -21,6 +21,7 @@ pub enum Status {
     Faulted(Reason),
 }
 
+// No Option: a caller may pass an empty box that holds a word, which `box_good` refuses with 13.
 #[derive(Clone, Copy, PartialEq, Eq, Debug, Default)]
 pub struct Mailbox {
     pub full: bool,

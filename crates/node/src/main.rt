@@ -1,9 +1,8 @@
 // The program: files in, lines out. What the lines are is proved of `lines::transcript`; here files are read and the text is written.
 #![tactic(auto)]
 
-ghost use Rattle.std.specs.Prelude.{take};
+ghost use Rattle.std.specs.Prelude.{◌≤◌, length};
 ghost use Rattle.std.specs.Io.KnownBytes.{Consumes};
-ghost use Rattle.io.specs.Counts.{IsPrefixLen};
 
 use std::fs::File;
 use std::io::Read;
@@ -16,10 +15,10 @@ const LONG: usize = 16384;
 // 80 bytes for each byte of the trace and 80 more: no text is longer, by `transcript_length` in crates/promises/specs/Texts.antt.
 const TEXT: usize = 1310800;
 
-// Fills the buffer from what is read and answers how many bytes came: the first ones, in their order. A read that fails is the end.
-fn fill<R: Read>(file: &mut R, buffer: &mut [u8]) -> usize
-    ensures room { IsPrefixLen result buffer.new }
-    ensures first { Consumes (R.remaining file.old) (R.remaining file.new) (take result buffer.new) }
+// What is read, as far as the buffer goes: the first bytes, in their order. A read that fails is the end.
+fn fill<'a, R: Read>(file: &mut R, buffer: &'a mut [u8]) -> &'a mut [u8]
+    ensures room { length result.now ≤ length buffer.old }
+    ensures first { Consumes (R.remaining file.old) (R.remaining file.new) result.now }
 {
     let mut done = 0;
     while done < buffer.len() {
@@ -28,39 +27,33 @@ fn fill<R: Read>(file: &mut R, buffer: &mut [u8]) -> usize
             Ok(n) => done += n,
         }
     }
-    done
+    &mut buffer[..done]
 }
 
-// Fills the buffer from the file's front and answers how many bytes came. "a missing file is empty", and so is one that cannot be read.
-fn load(rt: &impl Files, path: &str, buffer: &mut [u8]) -> usize
-    ensures { IsPrefixLen result buffer.new }
+// The file's first bytes, as far as the buffer goes. "a missing file is empty", and so is one that cannot be read.
+fn load<'a>(rt: &impl Files, path: &str, buffer: &'a mut [u8]) -> &'a mut [u8]
+    ensures { length result.now ≤ length buffer.old }
 {
     match File::open(rt, path) {
         Ok(mut file) => fill(&mut file, buffer),
-        Err(_) => 0,
+        Err(_) => &mut buffer[..0],
     }
 }
 
-// A write that fails is not told: the program's exit status is always 0.
-fn print(rt: &impl Print, text: &[u8], n: usize) {
-    if n <= text.len() {
-        let _ = rt.write_all(&text[..n]);
-    }
-}
-
+// A write that fails is not told: the program's exit status is always 0. The array is lent as one: main would prove its length at each use.
 fn show(rt: &impl Print, sheet: &[u8], memory: &mut [u8], trace: &[u8], room: &mut [u8; TEXT]) {
     let text = &mut room[..];
     let n = lines::transcript(sheet, memory, trace, text);
-    print(rt, text, n);
+    let _ = rt.write_all(text.get(..n).unwrap_or_default());
 }
 
 fn main(rt: HostRuntime) {
-    let mut sheet = [0u8; SHEET];
-    let mut memory = [0u8; LONG];
-    let mut trace = [0u8; LONG];
-    let mut text = [0u8; TEXT];
-    let s = load(&rt, "node.sheet", &mut sheet);
-    let m = load(&rt, "node.mem", &mut memory);
-    let t = load(&rt, "node.trace", &mut trace);
-    show(&rt, &sheet[..s], &mut memory[..m], &trace[..t], &mut text);
+    let mut sheet = [0; SHEET];
+    let mut memory = [0; LONG];
+    let mut trace = [0; LONG];
+    let mut text = [0; TEXT];
+    let sheet = load(&rt, "node.sheet", &mut sheet);
+    let memory = load(&rt, "node.mem", &mut memory);
+    let trace = load(&rt, "node.trace", &mut trace);
+    show(&rt, sheet, memory, trace, &mut text);
 }

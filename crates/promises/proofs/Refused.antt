@@ -3,7 +3,7 @@
 --     unchanged         a call that refuses gives back what it was given, with counts 0; start, the reader and the view as 01 says for them
 --     prints_refusal    the same of the text: one line, and the memory as it came
 -- Assumes nothing.
-use Rattle.std.specs.Prelude.{ℕ, zero, suc, ◌≡◌, refl, Bool, true, false, List, [], ◌++◌, eqb, length}
+use Rattle.std.specs.Prelude.{ℕ, zero, suc, ◌≡◌, refl, Bool, true, false, List, [], ◌++◌, eqb, length, Ok, Err}
 use Rattle.std.proofs.Common.{sym, ap, ◌∙◌}
 use Rattle.model.proofs.BasicsLaws.{by_bool}
 use Rattle.model.specs.Map.{Grid, domain, may}
@@ -15,67 +15,56 @@ use Rattle.model.specs.Calls.{left, named, lent_verdict, node_verdict, permissio
 use Rattle.model.specs.Program.{words, decimal, refusal_line, refusal_at_line, prints, of_sheet, transcript}
 use Rattle.model.specs.declared.map.Map.{Map}
 use Rattle.model.specs.declared.state.State.{State}
-use Rattle.model.specs.declared.event.EventRead.{EventRead}
+use Rattle.model.specs.declared.call.Stop.{Stop}
+use Rattle.model.specs.Answers.{EventRead, Verdict, Close}
 use Rattle.model.specs.declared.refusal.Refusal.{Refusal}
-use Rattle.model.specs.declared.call.Verdict.{Verdict}
-use Rattle.model.specs.declared.call.Close.{Close}
 use Rattle.promises.specs.Public.{Call, value}
 use Rattle.promises.specs.Tests.{Ruling, ruling, nine, sheet_tests, tests}
 use Rattle.promises.specs.Traces.{Closing, trace_number}
-use Rattle.promises.specs.Ruled.{of_verdict, of_found, of_event, fitting}
+use Rattle.promises.specs.Ruled.{of_answer, of_found, fitting}
 use Rattle.promises.proofs.Ruled.{map_rules, named_rules, lent_rules, fitting_rules, node_rules, sheet_read_by, event_ruled}
-use Rattle.promises.specs.Refused.{of_permission, of_reading, of_writing, of_reply, of_close, of_ending, says, Numbered, Refuses}
+use Rattle.promises.specs.Refused.{of_reading, of_close, says, Numbered, Refuses}
 
 -- ---- what each call says, of the verdict or of the bytes
 
-permission_says : (v : Verdict) (b : Bool) → of_permission (permission v b) ≡ of_verdict 0 v
-permission_says Verdict.Accepted true = refl
-permission_says Verdict.Accepted false = refl
-permission_says (Verdict.Refused r) b = refl
+permission_says : (v : Verdict) (b : Bool) → of_answer 0 (permission v b) ≡ of_answer 0 v
+permission_says (Ok tt) b = refl
+permission_says (Err r) b = refl
 
 found_says : (f : Found) → of_reading (reported f).value.reading ≡ of_found f
 found_says (Found.whole m g) = refl
 found_says (Found.refused r at) = refl
 
-written_says : (v : Verdict) (s buffer : List ℕ) → of_writing (written v s buffer).value ≡ of_verdict 0 v
-written_says Verdict.Accepted s buffer = refl
-written_says (Verdict.Refused r) s buffer = refl
+written_says : (v : Verdict) (s buffer : List ℕ) → of_answer 0 (written v s buffer).value ≡ of_answer 0 v
+written_says (Ok tt) s buffer = refl
+written_says (Err r) s buffer = refl
 
-started_says : (v : Verdict) (s : State) → of_verdict 0 (started v s).verdict ≡ of_verdict 0 v
-started_says Verdict.Accepted s = refl
-started_says (Verdict.Refused r) s = refl
+started_says : (v : Verdict) (s : State) → of_answer 0 (started v s).verdict ≡ of_answer 0 v
+started_says (Ok tt) s = refl
+started_says (Err r) s = refl
 
-stepped_says : (v : Verdict) (s : State) (memory : List ℕ) (o : Outcome) → of_reply (stepped v s memory o).value.reply ≡ of_verdict 0 v
-stepped_says Verdict.Accepted s memory o = refl
-stepped_says (Verdict.Refused r) s memory o = refl
+stepped_says : (v : Verdict) (s : State) (memory : List ℕ) (o : Outcome) → of_answer 0 (stepped v s memory o).value.reply ≡ of_answer 0 v
+stepped_says (Ok tt) s memory o = refl
+stepped_says (Err r) s memory o = refl
 
 played_says :
     (v : Verdict) (s : State) (memory : List ℕ) (t : Trace) (r : Run) → of_close t.close ≡ Ruling.accepted
-    → of_close (played v s memory t r).value.close ≡ of_verdict 0 v
-played_says Verdict.Accepted s memory t r e = e
-played_says (Verdict.Refused x) s memory t r e = refl
+    → of_close (played v s memory t r).value.close ≡ of_answer 0 v
+played_says (Ok tt) s memory t r e = e
+played_says (Err x) s memory t r e = refl
 
-batched_says :
-    (v : Verdict) (s : State) (memory : List ℕ) (b : Batch) → of_ending b.ending ≡ Ruling.accepted
-    → of_ending (batched v s memory b).value.ending ≡ of_verdict 0 v
-batched_says Verdict.Accepted s memory b e = e
-batched_says (Verdict.Refused r) s memory b e = refl
+batched_says : (v : Verdict) (s : State) (memory : List ℕ) (b : Batch) → of_answer 0 (batched v s memory b).value.ending ≡ of_answer 0 v
+batched_says (Ok tt) s memory b = refl
+batched_says (Err r) s memory b = refl
 
--- a trace that is read, and a batch that is run, are no refusals
+-- a trace that is read is no refusal
 closing_accepted : (x : Close) → Closing x → of_close x ≡ Ruling.accepted
-closing_accepted Close.Done h = refl
-closing_accepted (Close.Broken r at) h = refl
-closing_accepted (Close.Refused r) h = absurd h
+closing_accepted (Ok tt) h = refl
+closing_accepted (Err (Stop.Broken f)) h = refl
+closing_accepted (Err (Stop.Refused r)) h = absurd h
 
 trace_accepted : (bytes : List ℕ) → of_close (trace_of 0 bytes).close ≡ Ruling.accepted
 trace_accepted bytes = closing_accepted (trace_of 0 bytes).close (trace_number (length bytes) 0 bytes)
-
-batch_accepted : (m : Map) (g : Grid) (s : State) (memory : List ℕ) (limit : ℕ) → of_ending (batch m g s memory limit).ending ≡ Ruling.accepted
-unfolding batch
-batch_accepted m g s memory zero = refl
-batch_accepted m g s memory (suc limit) =
-    let o = step m g s memory in
-    by_bool (eqb s.active 0) (λ e. rw e) (λ e. rw e (batch_accepted m g o.state o.memory limit))
 
 -- ---- the theorems
 
@@ -94,23 +83,23 @@ which (Call.playing m g s memory trace) =
     played_says (node_verdict m g s memory) s memory (trace_of 0 trace) _ (trace_accepted trace)
     ∙ (node_rules m g s memory).by
 which (Call.batching m g s memory limit) =
-    batched_says (node_verdict m g s memory) s memory _ (batch_accepted m g s memory limit) ∙ (node_rules m g s memory).by
+    batched_says (node_verdict m g s memory) s memory (batch m g s memory limit) ∙ (node_rules m g s memory).by
 
 -- a number that is said is that of the verdict's refusal, so what follows from the verdict is the refused call's
 follows :
-    {A : Type 0} (f : Verdict → A) (v : Verdict) {n at : ℕ} → of_verdict 0 v ≡ Ruling.refused n at
-    → Numbered n (λ r. f v ≡ f (Verdict.Refused r))
-follows f Verdict.Accepted e = (Refusal.Short, (cc), (cc))
-follows f (Verdict.Refused r) e = (r, (cc), refl)
+    {A : Type 0} (f : Verdict → A) (v : Verdict) {n at : ℕ} → of_answer 0 v ≡ Ruling.refused n at
+    → Numbered n (λ r. f v ≡ f (Err r))
+follows f (Ok tt) e = (Refusal.Short, (cc), (cc))
+follows f (Err r) e = (r, (cc), refl)
 
 found_refuses :
     (f : Found) {n at : ℕ} → of_found f ≡ Ruling.refused n at → Numbered n (λ r. reported f ≡ reported (Found.refused r at))
 found_refuses (Found.whole m g) e = (Refusal.Short, (cc), (cc))
 found_refuses (Found.refused r at) e = (r, (cc), (cc))
 
-event_refuses : (x : EventRead) {n at : ℕ} → of_event x ≡ Ruling.refused n at → Numbered n (λ r. x ≡ EventRead.Broken r)
-event_refuses (EventRead.Whole e n) q = (Refusal.Short, (cc), (cc))
-event_refuses (EventRead.Broken r) q = (r, (cc), refl)
+event_refuses : (x : EventRead) {n at : ℕ} → of_answer 0 x ≡ Ruling.refused n at → Numbered n (λ r. x ≡ Err r)
+event_refuses (Ok x) q = (Refusal.Short, (cc), (cc))
+event_refuses (Err r) q = (r, (cc), refl)
 
 pub unchanged : (c : Call) (n at : ℕ) → says c (value c) ≡ Ruling.refused n at → Refuses c n at
 unfolding question view reader writer starter stepper player batcher
@@ -141,7 +130,7 @@ unchanged (Call.playing m g s memory trace) n at q =
 unchanged (Call.batching m g s memory limit) n at q =
     let v = node_verdict m g s memory in
     let o = batch m g s memory limit in
-    follows (λ x. batched x s memory o) v (sym (batched_says v s memory o (batch_accepted m g s memory limit)) ∙ q)
+    follows (λ x. batched x s memory o) v (sym (batched_says v s memory o) ∙ q)
 
 -- ---- the text: one line with the number, and the offset where the sheet is refused; the memory as it came
 

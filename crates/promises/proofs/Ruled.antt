@@ -2,7 +2,7 @@
 --     map_rules, named_rules, lent_rules, fitting_rules, node_rules     each verdict
 --     sheet_read_by, event_ruled                                        the readings
 -- Assumes nothing.
-use Rattle.std.specs.Prelude.{ℕ, zero, suc, ◌+◌, ◌≡◌, refl, Bool, true, false, not, List, [], ◌∷◌, ◌++◌, leb, eqb, length, take, drop, if◌then◌else◌}
+use Rattle.std.specs.Prelude.{ℕ, zero, suc, ◌+◌, ◌≡◌, refl, Bool, true, false, not, List, [], ◌∷◌, ◌++◌, leb, eqb, length, take, drop, if◌then◌else◌, Ok, Err}
 use Rattle.std.proofs.Common.{sym, ◌∙◌, arith, le-leb, eqb-true}
 use Rattle.std.proofs.Math.Dec.{leb-zero}
 use Rattle.model.specs.Basics.{number}
@@ -16,9 +16,9 @@ use Rattle.model.specs.declared.map.Domain.{Domain}
 use Rattle.model.specs.declared.map.Map.{Map}
 use Rattle.model.specs.declared.state.State.{State}
 use Rattle.model.specs.declared.refusal.Refusal.{Refusal}
-use Rattle.model.specs.declared.call.Verdict.{Verdict}
+use Rattle.model.specs.Answers.{Verdict}
 use Rattle.promises.specs.Tests.{Test, test, present, Ruling, ruling, domain_tests, each_domain, map_tests, nine, fourteen, ten, node_tests, last_tests, channel_tests, record_tests, kernel_tests, sheet_tests, event_tests}
-use Rattle.promises.specs.Ruled.{of_event, Rules, fitting, Reads}
+use Rattle.promises.specs.Ruled.{of_answer, Rules, fitting, Reads}
 
 -- ---- tests in a row
 
@@ -32,8 +32,8 @@ append_failed [] ys n at e = cc
 append_failed (x ∷ xs) ys n at e = by_bool x.passed (λ p. rw p (append_failed xs ys n at (rw p at e))) (λ p. rw p (rw p at e))
 
 then_rules : {at : ℕ} {v w : Verdict} {xs ys : List Test} → Rules at v xs → Rules at w ys → Rules at (v ▸ w) (xs ++ ys)
-then_rules {v = Verdict.Accepted} {xs = xs} {ys = ys} e f = record { by = f.by ∙ sym (append_passed xs ys (sym e.by)) }
-then_rules {at = at} {v = Verdict.Refused r} {xs = xs} {ys = ys} e f = record { by = sym (append_failed xs ys (refusal_number r) at (sym e.by)) }
+then_rules {v = Ok tt} {xs = xs} {ys = ys} e f = record { by = f.by ∙ sym (append_passed xs ys (sym e.by)) }
+then_rules {at = at} {v = Err r} {xs = xs} {ys = ys} e f = record { by = sym (append_failed xs ys (refusal_number r) at (sym e.by)) }
 
 check_rules : {at : ℕ} {b : Bool} (r : Refusal) → Rules at (check b r) (test (refusal_number r) at b ∷ [])
 check_rules {b = true} r = record { by = refl }
@@ -96,8 +96,8 @@ node_rules m g s memory = then_rules (map_rules m g) (test_rules Refusal.Memory 
 
 judged_reads :
     {at : ℕ} {v : Verdict} {go : Found} {xs ys : List Test} → Rules at v xs → Reads go ys → Reads (judged at v go) (xs ++ ys)
-judged_reads {v = Verdict.Accepted} {xs = xs} {ys = ys} e f = record { by = f.by ∙ sym (append_passed xs ys (sym e.by)) }
-judged_reads {at = at} {v = Verdict.Refused r} {xs = xs} {ys = ys} e f =
+judged_reads {v = Ok tt} {xs = xs} {ys = ys} e f = record { by = f.by ∙ sym (append_passed xs ys (sym e.by)) }
+judged_reads {at = at} {v = Err r} {xs = xs} {ys = ys} e f =
     record { by = sym (append_failed xs ys (refusal_number r) at (sym e.by)) }
 
 if_reads :
@@ -167,7 +167,7 @@ sheet_read_by (k ∷ rest) =
 
 -- ---- an event's tests
 
-pub event_ruled : (s : List ℕ) → of_event (event_read s) ≡ ruling (event_tests s)
+pub event_ruled : (s : List ℕ) → of_answer 0 (event_read s) ≡ ruling (event_tests s)
 unfolding event_read
 event_ruled [] = refl
 event_ruled (k ∷ s) =

@@ -1,6 +1,6 @@
 -- Document 01, "The program": Case L, its map, grid, memory and trace as values.
 -- Assumes nothing.
-use Rattle.std.specs.Prelude.{ℕ, ◌≡◌, refl, true, List, [], ◌∷◌, length, replicate}
+use Rattle.std.specs.Prelude.{ℕ, ◌≡◌, refl, true, List, [], ◌∷◌, length, replicate, Ok}
 use Rattle.std.proofs.lemmas.List.Edits.{sets}
 use Rattle.model.specs.Map.{region, absent, no_grid, Grid}
 use Rattle.model.specs.Refusals.{accepts}
@@ -10,8 +10,6 @@ use Rattle.model.specs.Events.{trace_of, run}
 use Rattle.model.specs.Whole.{whole}
 use Rattle.model.specs.declared.map.Domain.{Domain}
 use Rattle.model.specs.declared.map.Map.{Map}
-use Rattle.model.specs.declared.call.Verdict.{Verdict}
-use Rattle.model.specs.declared.call.Close.{Close}
 use Rattle.model.specs.declared.state.Reason.{Reason}
 use Rattle.model.specs.declared.event.Answer.{Answer}
 
@@ -36,7 +34,7 @@ L_memory =
 abbrev pub L_trace : List ℕ
 L_trace = 1 ∷ 1 ∷ 1 ∷ 1 ∷ 3 ∷ 2 ∷ 5 ∷ 0 ∷ 0 ∷ 0 ∷ 1 ∷ 1 ∷ 1 ∷ []
 
-pub L_acceptable : accepts L_map L_grid ≡ Verdict.Accepted
+pub L_acceptable : accepts L_map L_grid ≡ Ok tt
 unfolding whole
 L_acceptable = refl
 
@@ -64,7 +62,7 @@ pub L_answers :
 unfolding whole
 L_answers = refl
 
-pub L_closes : (trace_of 0 L_trace).close ≡ Close.Done
+pub L_closes : (trace_of 0 L_trace).close ≡ Ok tt
 unfolding whole
 L_closes = refl
 

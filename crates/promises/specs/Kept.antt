@@ -1,7 +1,7 @@
 -- Document 01, "The state" and "Events": the start is well formed, and every event and every run keeps a state so,
 -- with as many contexts and as much memory.
 -- Assumes nothing.
-use Rattle.std.specs.Prelude.{ℕ, ◌≤◌, ◌≡◌, refl, ◌≢◌, true, false, ◌&&◌, List, [], ◌∷◌, eqb, length}
+use Rattle.std.specs.Prelude.{ℕ, ◌≤◌, ◌≡◌, refl, ◌≢◌, true, false, ◌&&◌, List, [], ◌∷◌, eqb, length, Ok}
 use Rattle.std.proofs.Common.{ap, ◌∙◌, arith, eq-eqb}
 use Rattle.std.proofs.lemmas.Bool.{eqb-false}
 use Rattle.model.specs.Map.{most, Grid, Rights, is_domain, rights}
@@ -22,11 +22,10 @@ use Rattle.model.specs.declared.state.Status.{Status}
 use Rattle.model.specs.declared.state.Context.{Context}
 use Rattle.model.specs.declared.state.State.{State}
 use Rattle.model.specs.declared.event.Event.{Event}
-use Rattle.model.specs.declared.call.Verdict.{Verdict}
 use Rattle.promises.specs.CaseL.{L_map, L_grid, L_acceptable, L_well_formed}
 
 pub start_formed :
-    (m : Map) (g : Grid) → accepts m g ≡ Verdict.Accepted
+    (m : Map) (g : Grid) → accepts m g ≡ Ok tt
     → (well_formed m.count (start m) ≡ true) × (length (start m).contexts ≡ most)
 start_formed m g e =
     let a = acceptable m g e in
@@ -135,7 +134,7 @@ each_keeps m g s memory Event.Tick h = tick_keeps m.count s memory h
 each_keeps m g s memory (Event.WordIn b w) h = word_in_keeps m.count s memory b w h
 
 pub event_keeps :
-    (m : Map) (g : Grid) → accepts m g ≡ Verdict.Accepted → (s : State) (memory : List ℕ) (e : Event)
+    (m : Map) (g : Grid) → accepts m g ≡ Ok tt → (s : State) (memory : List ℕ) (e : Event)
     → length s.contexts ≡ most → well_formed m.count s ≡ true
     → (well_formed m.count (event m g s memory e).state ≡ true)
     × (length (event m g s memory e).state.contexts ≡ most) × (length (event m g s memory e).memory ≡ length memory)
@@ -144,7 +143,7 @@ event_keeps m g a s memory e l f =
     let h = each_keeps m g s memory e (sound k.some k.few l f) in (sound_formed h.0, h.0.steady.long, h.1)
 
 pub run_keeps :
-    (m : Map) (g : Grid) → accepts m g ≡ Verdict.Accepted → (s : State) (memory : List ℕ) (es : List Event)
+    (m : Map) (g : Grid) → accepts m g ≡ Ok tt → (s : State) (memory : List ℕ) (es : List Event)
     → length s.contexts ≡ most → well_formed m.count s ≡ true
     → (well_formed m.count (run m g s memory es).state ≡ true)
     × (length (run m g s memory es).state.contexts ≡ most) × (length (run m g s memory es).memory ≡ length memory)

@@ -16,11 +16,8 @@ use Rattle.model.specs.declared.map.Map.{Map}
 use Rattle.model.specs.declared.map.Access.{Access}
 use Rattle.model.specs.declared.state.State.{State}
 use Rattle.model.specs.declared.event.Event.{Event}
-use Rattle.model.specs.declared.event.EventRead.{EventRead}
-use Rattle.model.specs.declared.call.Verdict.{Verdict}
-use Rattle.model.specs.declared.call.Permission.{Permission}
+use Rattle.model.specs.Answers.{EventRead, Verdict, Permission, Writing}
 use Rattle.model.specs.declared.call.Sheet.{Sheet}
-use Rattle.model.specs.declared.call.Writing.{Writing}
 use Rattle.model.specs.declared.call.Started.{Started}
 use Rattle.model.specs.declared.call.Stepped.{Stepped}
 use Rattle.model.specs.declared.call.Played.{Played}
@@ -38,19 +35,19 @@ pub data Call : Type 0 where
   playing : Map → Grid → State → List ℕ → List ℕ → Call
   batching : Map → Grid → State → List ℕ → ℕ → Call
 
-abbrev pub Result : Call → Type 0
-Result (Call.accepting m g) = Verdict
-Result (Call.asking m g d k a) = Permission
-Result (Call.viewing m g memory d) = Left Verdict (List ℕ)
-Result (Call.reading s) = Left Sheet Grid
-Result (Call.writing m g buffer) = Left Writing (List ℕ)
-Result (Call.starting m g) = Started
-Result (Call.happening m g s memory e) = Left Stepped (List ℕ)
-Result (Call.event_reading bytes) = EventRead
-Result (Call.playing m g s memory trace) = Left Played (List ℕ)
-Result (Call.batching m g s memory limit) = Left Batched (List ℕ)
+abbrev pub Returned : Call → Type 0
+Returned (Call.accepting m g) = Verdict
+Returned (Call.asking m g d k a) = Permission
+Returned (Call.viewing m g memory d) = Left Verdict (List ℕ)
+Returned (Call.reading s) = Left Sheet Grid
+Returned (Call.writing m g buffer) = Left Writing (List ℕ)
+Returned (Call.starting m g) = Started
+Returned (Call.happening m g s memory e) = Left Stepped (List ℕ)
+Returned (Call.event_reading bytes) = EventRead
+Returned (Call.playing m g s memory trace) = Left Played (List ℕ)
+Returned (Call.batching m g s memory limit) = Left Batched (List ℕ)
 
-abbrev pub value : (c : Call) → Result c
+abbrev pub value : (c : Call) → Returned c
 value (Call.accepting m g) = accepts m g
 value (Call.asking m g d k a) = question m g d k a
 value (Call.viewing m g memory d) = left (lent_verdict m g memory d) (view m g memory d)
@@ -65,7 +62,7 @@ value (Call.batching m g s memory limit) = batcher m g s memory limit
 pub coincide : {A : Type 0} {x y v : A} → x ≡ v → y ≡ v → x ≡ y
 coincide p q = p ∙ sym q
 
-pub call_coincides : (c : Call) (x y : Result c) → x ≡ value c → y ≡ value c → x ≡ y
+pub call_coincides : (c : Call) (x y : Returned c) → x ≡ value c → y ≡ value c → x ≡ y
 call_coincides c x y p q = coincide p q
 
 pub transcript_coincides :

@@ -3,7 +3,7 @@
 --     write_after_read      bytes that read whole are the sheet of what they read as, and that is acceptable
 --     sheet_bounds          a sheet has 36 to 351 bytes, by sheet_length of SheetLaws: 15 + 21N + 3G
 -- Assumes nothing.
-use Rattle.std.specs.Prelude.{ℕ, suc, ◌≤◌, ◌<◌, ◌≡◌, refl, true, leb, length, get_or, take, drop}
+use Rattle.std.specs.Prelude.{ℕ, suc, ◌≤◌, ◌<◌, ◌≡◌, refl, true, leb, length, get_or, take, drop, Ok}
 use Rattle.std.proofs.Common.{sym, ◌∙◌, arith, leb-true, le-leb}
 use Rattle.std.proofs.Math.Path.{ap}
 use mathlib.Core.List.{List, ◌++◌}
@@ -26,11 +26,10 @@ use Rattle.model.proofs.SheetLaws.{sheet_length, entries_good, domains_back, dom
 use Rattle.model.specs.declared.map.Region.{Region}
 use Rattle.model.specs.declared.map.Map.{Map}
 use Rattle.model.specs.declared.refusal.Refusal.{Refusal}
-use Rattle.model.specs.declared.call.Verdict.{Verdict}
 
 -- "36 to 351"
 pub sheet_bounds :
-    (m : Map) (g : Grid) → accepts m g ≡ Verdict.Accepted → (36 ≤ length (sheet_bytes m g)) × (length (sheet_bytes m g) ≤ 351)
+    (m : Map) (g : Grid) → accepts m g ≡ Ok tt → (36 ≤ length (sheet_bytes m g)) × (length (sheet_bytes m g) ≤ 351)
 sheet_bounds m g e =
     let a = acceptable m g e in
     let c = channel_most m.count g a.channels in
@@ -40,7 +39,7 @@ beginning : (n : ℕ) (r : Region) → Reading (beginning_map n r)
 beginning n r = record { size = refl; after = λ k h l. get_or-replicate most k absent absent l }
 
 pub read_after_write :
-    (m : Map) (g : Grid) → Shaped m g → accepts m g ≡ Verdict.Accepted → sheet_read (sheet_bytes m g) ≡ Found.whole m g
+    (m : Map) (g : Grid) → Shaped m g → accepts m g ≡ Ok tt → sheet_read (sheet_bytes m g) ≡ Found.whole m g
 unfolding sheet_bytes sheet_read
 read_after_write m g s e =
     let a = acceptable m g e in
@@ -82,7 +81,7 @@ module _ (m : Map) (g : Grid) (n : ℕ) (r : Region) (tail : List ℕ) (d : Doma
 
 pub write_after_read :
     (s : List ℕ) (m : Map) (g : Grid) → ((i : ℕ) → get_or s i 0 < 256) → sheet_read s ≡ Found.whole m g
-    → Shaped m g × (accepts m g ≡ Verdict.Accepted) × (sheet_bytes m g ≡ s)
+    → Shaped m g × (accepts m g ≡ Ok tt) × (sheet_bytes m g ≡ s)
 unfolding sheet_read
 write_after_read s m g o e =
     let p = record_known 0 1 4 s (λ b rest. length_read (number b 0) rest) m g e in

@@ -5,7 +5,7 @@
 --     outside_denied         000's lemma 2: nothing anywhere else
 --     write_reads, fetch_reads   lemma 7
 -- Assumes nothing.
-use Rattle.std.specs.Prelude.{ℕ, ◌-◌, ◌≤◌, ◌<◌, ◌≡◌, true, false, not, ◌≢◌, ◌⊎◌, ltb}
+use Rattle.std.specs.Prelude.{ℕ, ◌-◌, ◌≤◌, ◌<◌, ◌≡◌, true, false, not, ◌≢◌, ◌⊎◌, ltb, Ok}
 use Rattle.std.proofs.Common.{⊎_elim, arith, ltb-true, ltb-false}
 use Rattle.model.proofs.BasicsLaws.{by_bool, and_left, and_right}
 use Rattle.model.specs.Map.{inside, overlaps, Grid, domain, may}
@@ -17,7 +17,6 @@ use Rattle.model.specs.declared.map.Region.{Region}
 use Rattle.model.specs.declared.map.Domain.{Domain}
 use Rattle.model.specs.declared.map.Map.{Map}
 use Rattle.model.specs.declared.map.Access.{Access}
-use Rattle.model.specs.declared.call.Verdict.{Verdict}
 
 -- an address of the domain: in its code or its data
 abbrev pub Of : Domain → ℕ → Type 0
@@ -51,7 +50,7 @@ apart_swap d e p = (
   free_swap d e.«data» (and_right (not (overlaps d.code e.code)) _ p.0) (and_right (not (overlaps d.«data» e.code)) _ p.1),
 )
 
-module _ (m : Map) (g : Grid) (ok : accepts m g ≡ Verdict.Accepted) (d : ℕ) (low : 1 ≤ d) (high : d ≤ m.count) where
+module _ (m : Map) (g : Grid) (ok : accepts m g ≡ Ok tt) (d : ℕ) (low : 1 ≤ d) (high : d ≤ m.count) where
   own : Placed m (d - 1) (domain m d)
   own = placed m (d - 1) (domain m d) ((acceptable m g ok).each (d - 1) (omega arith))
 
@@ -82,7 +81,7 @@ module _ (m : Map) (g : Grid) (ok : accepts m g ≡ Verdict.Accepted) (d : ℕ) 
   pub fetch_reads : (a : ℕ) → may (domain m d) Access.Fetch a ≡ true → may (domain m d) Access.Read a ≡ true
   fetch_reads a e = may_read (domain m d) Access.Fetch a e
 
-module _ (m : Map) (g : Grid) (ok : accepts m g ≡ Verdict.Accepted) where
+module _ (m : Map) (g : Grid) (ok : accepts m g ≡ Ok tt) where
   later_apart : (f d : ℕ) → 1 ≤ f → f < d → d ≤ m.count → Apart (domain m d) (domain m f)
   later_apart f d l h b =
       let p = own m g ok d (omega arith) b in (

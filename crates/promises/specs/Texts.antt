@@ -3,7 +3,7 @@
 --     reason_printed       a fault's reason and its number
 --     transcript_length    a text has at most 80 bytes for each byte of its trace and 80 more: a buffer of that length holds it
 -- Assumes nothing.
-use Rattle.std.specs.Prelude.{ℕ, zero, suc, ◌+◌, ◌*◌, ◌/◌, ◌%◌, ◌≤◌, ◌≡◌, refl, List, [], ◌∷◌, ◌++◌, ltb, length, drop}
+use Rattle.std.specs.Prelude.{ℕ, zero, suc, ◌+◌, ◌*◌, ◌/◌, ◌%◌, ◌≤◌, ◌≡◌, refl, List, [], ◌∷◌, ◌++◌, ltb, length, drop, Ok, Err}
 use Rattle.std.proofs.Common.{ap, arith, length-append}
 use Rattle.model.proofs.BasicsLaws.{by_bool}
 use Rattle.model.specs.Map.{Grid}
@@ -19,10 +19,9 @@ use Rattle.model.specs.declared.state.Reason.{Reason}
 use Rattle.model.specs.declared.state.State.{State}
 use Rattle.model.specs.declared.event.Answer.{Answer}
 use Rattle.model.specs.declared.event.Event.{Event}
-use Rattle.model.specs.declared.event.EventRead.{EventRead}
+use Rattle.model.specs.declared.call.Stop.{Stop}
+use Rattle.model.specs.Answers.{EventRead, Close, Verdict}
 use Rattle.model.specs.declared.refusal.Refusal.{Refusal}
-use Rattle.model.specs.declared.call.Close.{Close}
-use Rattle.model.specs.declared.call.Verdict.{Verdict}
 use Rattle.promises.specs.CaseL.{L_map, L_grid, L_memory, L_trace}
 
 pub L_prints :
@@ -124,9 +123,9 @@ refusal_at_short r at =
     omega (arith, x, y, figures_short 20 (refusal_number r), named_short (words " at ") at)
 
 close_short : (x : Close) → length (close_line x) ≤ 45
-close_short Close.Done = omega arith
-close_short (Close.Broken r at) = refusal_at_short r at
-close_short (Close.Refused r) = omega (arith, refusal_short r)
+close_short (Ok tt) = omega arith
+close_short (Err (Stop.Broken f)) = refusal_at_short f.refusal f.at
+close_short (Err (Stop.Refused r)) = omega (arith, refusal_short r)
 
 -- as many answers as events, and no more events than bytes
 answers_length : (m : Map) (g : Grid) (s : State) (memory : List ℕ) (es : List Event) → length (run m g s memory es).answers ≡ length es
@@ -137,8 +136,8 @@ answers_length m g s memory (e ∷ es) =
 
 next_short :
     (k at : ℕ) (r : EventRead) (go : ℕ → Trace) → ((n : ℕ) → length (go n).events ≤ k) → length (next at r go).events ≤ suc k
-next_short k at (EventRead.Whole e n) go h = omega (arith, h n)
-next_short k at (EventRead.Broken r) go h = omega arith
+next_short k at (Ok (e, n)) go h = omega (arith, h n)
+next_short k at (Err r) go h = omega arith
 
 events_few : (k at : ℕ) (s : List ℕ) → length (trace k at s).events ≤ k
 unfolding trace
@@ -171,8 +170,8 @@ trace_short m g memory bytes =
 node_short :
     (v : Verdict) (m : Map) (g : Grid) (memory bytes : List ℕ)
     → length (unless_refused v memory (of_trace m g memory bytes)).text ≤ 80 * length bytes + 80
-node_short Verdict.Accepted m g memory bytes = trace_short m g memory bytes
-node_short (Verdict.Refused r) m g memory bytes = omega (arith, refusal_short r)
+node_short (Ok tt) m g memory bytes = trace_short m g memory bytes
+node_short (Err r) m g memory bytes = omega (arith, refusal_short r)
 
 sheet_short : (f : Found) (memory bytes : List ℕ) → length (of_sheet f memory bytes).text ≤ 80 * length bytes + 80
 sheet_short (Found.whole m g) memory bytes = node_short (as_long m memory) m g memory bytes

@@ -4,7 +4,7 @@
 --     read_writes       what was read whole is written as the bytes that were read, and the rest of the buffer is left
 --     written_length    the number that the writer returns is 15 + 21N + 3G
 -- Assumes nothing.
-use Rattle.std.specs.Prelude.{ℕ, ◌+◌, ◌*◌, ◌≤◌, ◌≡◌, refl, List, ◌++◌, leb, length, take, drop}
+use Rattle.std.specs.Prelude.{ℕ, ◌+◌, ◌*◌, ◌≤◌, ◌≡◌, refl, List, ◌++◌, leb, length, take, drop, Ok, Err}
 use Rattle.std.proofs.Common.{sym, ◌∙◌, arith, leb-true, le-leb}
 use Rattle.std.proofs.Math.Seq.{take_at}
 use Rattle.model.specs.Map.{Grid}
@@ -18,30 +18,28 @@ use Rattle.model.specs.RecordLaws.{Octets}
 use Rattle.model.specs.Calls.{left, reader, written, writer}
 use Rattle.model.specs.declared.map.Map.{Map}
 use Rattle.model.specs.declared.refusal.Refusal.{Refusal}
-use Rattle.model.specs.declared.call.Verdict.{Verdict}
-use Rattle.model.specs.declared.call.Reading.{Reading}
-use Rattle.model.specs.declared.call.Writing.{Writing}
+use Rattle.model.specs.Answers.{Verdict, refused_at}
 use Rattle.promises.specs.Sheets.{read_after_write, write_after_read}
 
 -- the writer writes exactly if it accepts, and then the whole sheet
 wrote :
-    (v : Verdict) (s buffer : List ℕ) (n : ℕ) → (written v s buffer).value ≡ Writing.Wrote n
-    → (v ≡ Verdict.Accepted) × (n ≡ length s)
-wrote Verdict.Accepted s buffer n e = (refl, cc)
-wrote (Verdict.Refused r) s buffer n e = ((cc), (cc))
+    (v : Verdict) (s buffer : List ℕ) (n : ℕ) → (written v s buffer).value ≡ Ok n
+    → (v ≡ Ok tt) × (n ≡ length s)
+wrote (Ok tt) s buffer n e = (refl, cc)
+wrote (Err r) s buffer n e = ((cc), (cc))
 
-module _ (m : Map) (g : Grid) (buffer : List ℕ) (n : ℕ) (w : (writer m g buffer).value ≡ Writing.Wrote n) where
+module _ (m : Map) (g : Grid) (buffer : List ℕ) (n : ℕ) (w : (writer m g buffer).value ≡ Ok n) where
   abbrev bytes : List ℕ
   bytes = sheet_bytes m g
 
   abbrev fits : Verdict
   fits = check (leb (length bytes) (length buffer)) Refusal.Buffer
 
-  told : (accepts m g ▸ fits ≡ Verdict.Accepted) × (n ≡ length bytes)
+  told : (accepts m g ▸ fits ≡ Ok tt) × (n ≡ length bytes)
   unfolding writer
   told = wrote (accepts m g ▸ fits) bytes buffer n w
 
-  pub written_acceptable : accepts m g ≡ Verdict.Accepted
+  pub written_acceptable : accepts m g ≡ Ok tt
   written_acceptable = then_left (accepts m g) fits told.0
 
   pub written_length : n ≡ 15 + 21 * m.count + 3 * channel_count g
@@ -53,7 +51,7 @@ module _ (m : Map) (g : Grid) (buffer : List ℕ) (n : ℕ) (w : (writer m g buf
       (leb-true (length bytes) (length buffer)
       (check_true (leb (length bytes) (length buffer)) Refusal.Buffer (then_right (accepts m g) fits told.0)))
 
-  pub written_reads : Shaped m g → reader (take n (writer m g buffer).lent) ≡ left (record { reading = Reading.Whole; map = m }) g
+  pub written_reads : Shaped m g → reader (take n (writer m g buffer).lent) ≡ left (record { reading = Ok tt; map = m }) g
   unfolding writer reader
   written_reads s =
       rw (told.0, take_at bytes (drop (length bytes) buffer) n (sym told.1), read_after_write m g s written_acceptable)
@@ -65,8 +63,8 @@ whole_or_refused (Found.whole m g) a b = a m g refl
 whole_or_refused (Found.refused r at) a b = b r at refl
 
 pub read_writes :
-    (s buffer : List ℕ) → Octets s → (reader s).value.reading ≡ Reading.Whole → length s ≤ length buffer
-    → writer (reader s).value.map (reader s).lent buffer ≡ left (Writing.Wrote (length s)) (s ++ drop (length s) buffer)
+    (s buffer : List ℕ) → Octets s → (reader s).value.reading ≡ Ok tt → length s ≤ length buffer
+    → writer (reader s).value.map (reader s).lent buffer ≡ left (Ok (length s)) (s ++ drop (length s) buffer)
 unfolding reader writer
 read_writes s buffer o e h =
     whole_or_refused (sheet_read s)
@@ -74,6 +72,6 @@ read_writes s buffer o e h =
     let k = write_after_read s m g o f in
     rw (f, then_pass _ k.1, k.2, le-leb (length s) (length buffer) h))
     (λ r at f.
-    let c : Reading.Refused r at ≡ Reading.Whole = rw f at e in
+    let c : Err (refused_at r at) ≡ Ok tt = rw f at e in
     let z : ◌≡◌ {A = ℕ} 0 1 = cc in
     absurd (omega arith))

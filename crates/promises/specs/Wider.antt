@@ -6,14 +6,13 @@
 -- The theorems are in proofs/Wider.antt.
 -- Assumes nothing.
 use Prim.Native.Nat.{ℕ, ◌≤◌}
-use Rattle.std.specs.Prelude.{◌≡◌, Bool, true, false, ◌⊎◌}
+use Rattle.std.specs.Prelude.{◌≡◌, Bool, true, false, ◌⊎◌, Ok}
 use mathlib.Core.List.{List, [], ◌∷◌}
 use Rattle.model.specs.Map.{Grid, Rights, rights, domain, may, granted}
 use Rattle.model.specs.Refusals.{accepts}
 use Rattle.model.specs.Events.{event}
 use Rattle.model.specs.declared.map.Map.{Map}
 use Rattle.model.specs.declared.map.Access.{Access}
-use Rattle.model.specs.declared.call.Verdict.{Verdict}
 use Rattle.model.specs.declared.state.Reason.{Reason}
 use Rattle.model.specs.declared.state.State.{State}
 use Rattle.model.specs.declared.event.Event.{Event}
@@ -22,8 +21,8 @@ use Rattle.model.specs.declared.event.Answer.{Answer}
 -- ---- the premise
 
 pub record Wider (m : Map) (g : Grid) (m' : Map) (g' : Grid) : Type 0 where
-  pub first : accepts m g ≡ Verdict.Accepted
-  pub second : accepts m' g' ≡ Verdict.Accepted
+  pub first : accepts m g ≡ Ok tt
+  pub second : accepts m' g' ≡ Ok tt
   pub length : m.length ≡ m'.length
   pub count : m.count ≡ m'.count
   pub entries : (d : ℕ) → 1 ≤ d → d ≤ m.count → (domain m d).entry ≡ (domain m' d).entry

@@ -1,5 +1,5 @@
 -- What the proofs of several functions share:
 --     Turns          one turn of each loop
---     Exits          each exit of the functions that make several tests
+--     Walks          what the code walks, beside the definitions' recursions
 pub mod Turns
-pub mod Exits
+pub mod Walks

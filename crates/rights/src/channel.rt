@@ -23,14 +23,12 @@ pub fn is_channel(count: u8, f: u8, t: u8) -> bool
 pub fn channels_good(count: u8, g: [[bool; MOST]; MOST]) -> bool
     ensures { result ≡ channels_good count g 0 (most * most) }
 {
-    let mut p = 0;
-    while p < MOST * MOST {
+    for p in 0..MOST * MOST {
         let row = p / MOST;
         let column = p % MOST;
         if g[row][column] & !is_channel(count, (row + 1) as u8, (column + 1) as u8) {
             return false;
         }
-        p += 1;
     }
     true
 }

@@ -1,7 +1,7 @@
 // Tests on a region alone.
 ghost use Rattle.std.specs.Prelude.{◌≡◌};
 ghost use Rattle.model.specs.Map.{inside, overlaps};
-ghost use Rattle.model.specs.Refusals.{zero_region, sized, within};
+ghost use Rattle.model.specs.Refusals.{sized, within};
 
 use model::map::Region;
 
@@ -9,27 +9,22 @@ use model::map::Region;
 pub fn inside(r: Region, a: u64) -> bool
     ensures { result ≡ inside r a }
 {
-    ((r.begin as u64) <= a) & (a < (r.end as u64))
+    (u64::from(r.begin) <= a) & (a < u64::from(r.end))
 }
 
 // The two share an address. "An empty region overlaps nothing."
+#[tactic(auto, unfolding(model::specs::Map::overlaps))]
 pub fn overlaps(r: Region, q: Region) -> bool
     ensures { result ≡ overlaps r q }
 {
     (r.begin < r.end) & (q.begin < q.end) & (r.begin < q.end) & (q.begin < r.end)
 }
 
-pub fn zero_region(r: Region) -> bool
-    ensures { result ≡ zero_region r }
-{
-    (r.begin == 0) & (r.end == 0)
-}
-
 // 3: "memory length not 256 to 65,536"
 pub fn sized(n: u32) -> bool
     ensures { result ≡ sized n }
 {
-    (256 <= n) & (n <= 65536)
+    (256..=65536).contains(&n)
 }
 
 // 4: "begin above end, or end above memory length"

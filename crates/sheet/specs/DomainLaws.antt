@@ -4,7 +4,7 @@
 --     body_cut              a record of kind 3 whose body is not there
 --     domain_read, domain_bad   one whose body is there: a domain that stands well, and one that is refused
 -- Assumes nothing.
-use Rattle.std.specs.Prelude.{ℕ, suc, ◌+◌, ◌-◌, ◌≤◌, ◌<◌, ◌≡◌, List, get_or, take, drop}
+use Rattle.std.specs.Prelude.{ℕ, suc, ◌+◌, ◌-◌, ◌≤◌, ◌<◌, ◌≡◌, List, get_or, take, drop, Ok, Err}
 use native.Mathlib.Omega.{arith}
 use Rattle.std.proofs.Math.ListN.{length, length-drop}
 use Rattle.std.proofs.Math.Seq.{drop-drop}
@@ -13,7 +13,6 @@ use Rattle.model.specs.Refusals.{domain_verdict}
 use Rattle.model.specs.Sheet.{judged, domain_of, with_domain, domains_read}
 use Rattle.model.specs.declared.map.Domain.{Domain}
 use Rattle.model.specs.declared.refusal.Refusal.{Refusal}
-use Rattle.model.specs.declared.call.Verdict.{Verdict}
 use Rattle.sheet.specs.DropLaws.{drop_end, drop_here}
 use Rattle.sheet.specs.Resumed.{ReadsDomain}
 use Rattle.sheet.specs.declared.answer.Cursor.{Cursor}
@@ -63,10 +62,10 @@ module _ (s : List ℕ) (c : Cursor) where
             rw (drop_here s c.at h, eq-eqb kind 3 e, le-leb 20 (length rest) t, drop-drop 20 (c.at + 1) s, j, f, k)
 
         pub domain_read :
-            domain_verdict c.map c.map.count d ≡ Verdict.Accepted → ReadsDomain s c (DomainRead.Domain d)
+            domain_verdict c.map c.map.count d ≡ Ok tt → ReadsDomain s c (DomainRead.Domain d)
         domain_read v = record { reads = λ room. rw v at (verdict_decides room); fits = omega arith }
 
         pub domain_bad :
-            (r : Refusal) → domain_verdict c.map c.map.count d ≡ Verdict.Refused r
+            (r : Refusal) → domain_verdict c.map c.map.count d ≡ Err r
             → ReadsDomain s c (DomainRead.Refused r)
         domain_bad r v = record { reads = λ room. rw v at (verdict_decides room); fits = omega arith }

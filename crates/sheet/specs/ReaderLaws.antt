@@ -1,6 +1,6 @@
 -- Going on with a reading, and its end: what the reader returns and leaves in the grid, by how the last record closed.
 -- Assumes nothing.
-use Rattle.std.specs.Prelude.{ℕ, ◌≡◌, refl, List}
+use Rattle.std.specs.Prelude.{ℕ, ◌≡◌, refl, List, Ok, Err}
 use Rattle.std.proofs.Common.{sym, ◌∙◌}
 use Rattle.std.proofs.Math.Path.{ap}
 use Rattle.model.specs.Map.{Grid}
@@ -8,7 +8,7 @@ use Rattle.model.specs.Sheet.{Found, sheet_read}
 use Rattle.model.specs.Calls.{left, reported, reader}
 use Rattle.model.specs.declared.map.Map.{Map}
 use Rattle.model.specs.declared.refusal.Refusal.{Refusal}
-use Rattle.model.specs.declared.call.Reading.{Reading}
+use Rattle.model.specs.Answers.{Reading, refused_at}
 use Rattle.model.specs.declared.call.Sheet.{Sheet}
 use Rattle.sheet.specs.Resumed.{ReadsFront, closed, Refuses}
 use Rattle.sheet.specs.declared.answer.Front.{Front}
@@ -26,9 +26,9 @@ module _ (s : List ℕ) (x : Sheet) (g : Grid) (e : closed x.map x.reading g ≡
   unfolding reader
   report w = ap reported (ap (λ (r : Reading). closed x.map r g) (sym w) ∙ e)
 
-  pub closed_whole : x.reading ≡ Reading.Whole → left x g ≡ reader s
+  pub closed_whole : x.reading ≡ Ok tt → left x g ≡ reader s
   closed_whole w = ap (λ (y : Sheet). left y g) (sheet_equal x w refl) ∙ report w
 
   pub closed_refused :
-      {r : Refusal} {at : ℕ} {y : Sheet} {h : Grid} → x.reading ≡ Reading.Refused r at → Refuses r at y h → left y h ≡ reader s
+      {r : Refusal} {at : ℕ} {y : Sheet} {h : Grid} → x.reading ≡ Err (refused_at r at) → Refuses r at y h → left y h ≡ reader s
   closed_refused {y = y} w f = rw (f.grid, sheet_equal y f.reading f.map) (report w)

@@ -1,12 +1,12 @@
 -- What is left to read after each of the reader's answers: an answer's contract is that this is what the definition reads.
 -- Assumes nothing.
-use Rattle.std.specs.Prelude.{ℕ, suc, ◌+◌, ◌*◌, ◌≤◌, ◌<◌, ◌≡◌, List, [], true, length, get_or, set, take, drop}
+use Rattle.std.specs.Prelude.{ℕ, suc, ◌+◌, ◌*◌, ◌≤◌, ◌<◌, ◌≡◌, List, [], true, length, get_or, set, take, drop, Ok, Err}
 use Rattle.model.specs.Map.{most, no_map, Grid, no_grid}
 use Rattle.model.specs.Sheet.{Found, one_record, kernel_read, region_of, beginning_map, with_domain, domains_read, channels_read}
 use Rattle.model.specs.declared.map.Domain.{Domain}
 use Rattle.model.specs.declared.map.Map.{Map}
 use Rattle.model.specs.declared.refusal.Refusal.{Refusal}
-use Rattle.model.specs.declared.call.Reading.{Reading}
+use Rattle.model.specs.Answers.{Reading, refused_at}
 use Rattle.model.specs.declared.call.Sheet.{Sheet}
 use Rattle.sheet.specs.declared.answer.Cursor.{Cursor}
 use Rattle.sheet.specs.declared.answer.Record.{Record}
@@ -62,8 +62,8 @@ past_domain c d = record { at = c.at + 21; map = with_domain c.map d }
 
 -- all records before the channels, of which the whole is `all`
 abbrev pub after_front : List ℕ → Cursor → Reading → Found
-after_front s c Reading.Whole = channels_read c.at c.map 0 no_grid (drop c.at s)
-after_front s c (Reading.Refused r at) = Found.refused r at
+after_front s c (Ok tt) = channels_read c.at c.map 0 no_grid (drop c.at s)
+after_front s c (Err f) = Found.refused f.refusal f.at
 
 pub record ReadsFront (s : List ℕ) (all : Found) (r : Front) : Type 0 where
   pub reads : after_front s r.cursor r.reading ≡ all
@@ -87,11 +87,11 @@ pub record ReadsChannel (s : List ℕ) (at count p : ℕ) (r : ChannelRead) : Ty
 
 -- the whole sheet
 abbrev pub closed : Map → Reading → Grid → Found
-closed m Reading.Whole g = Found.whole m g
-closed m (Reading.Refused r at) g = Found.refused r at
+closed m (Ok tt) g = Found.whole m g
+closed m (Err f) g = Found.refused f.refusal f.at
 
 -- "On refusal the map is all zero and the grid all no."
 pub record Refuses (r : Refusal) (at : ℕ) (x : Sheet) (g : Grid) : Type 0 where
-  pub reading : x.reading ≡ Reading.Refused r at
+  pub reading : x.reading ≡ Err (refused_at r at)
   pub map : x.map ≡ no_map
   pub grid : g ≡ no_grid

@@ -1,9 +1,8 @@
 // The answers of the reader's small functions. A refusal with no offset is at its record's kind byte.
 ghost use Rattle.std.specs.Prelude.{◌≡◌};
 
-use model::call::Reading;
 use model::map::{Domain, Map, Region};
-use model::refusal::Refusal;
+use model::refusal::{Refusal, RefusedAt};
 
 // Where the reader stands: the offset of the next record's kind byte, and the map as far as it is read.
 #[derive(Clone, Copy)]
@@ -50,12 +49,12 @@ pub enum ChannelRead {
 // The records before the channels: with `Whole` the channels follow at the cursor.
 #[derive(Clone, Copy)]
 pub struct Front {
-    pub reading: Reading,
+    pub reading: Result<(), RefusedAt>,
     pub cursor: Cursor,
 }
 
 impl Front {
-    pub fn new(reading: Reading, cursor: Cursor) -> Self
+    pub fn new(reading: Result<(), RefusedAt>, cursor: Cursor) -> Self
         ensures { result ≡ record { reading = reading; cursor = cursor } }
     {
         Self {

@@ -6,8 +6,7 @@ ghost use Rattle.sheet.specs.Resumed.{ReadsChannel, closed};
 
 use crate::answer::{ChannelRead, Cursor};
 use model::MOST;
-use model::call::Reading;
-use model::refusal::Refusal;
+use model::refusal::{Refusal, RefusedAt};
 use rights::channel::is_channel;
 
 // "one 5, nothing after"
@@ -60,7 +59,7 @@ fn channel_record(s: &[u8], at: usize, count: u8, p: usize) -> ChannelRead
 }
 
 // The records of kinds 4 and 5 from the cursor on, marked in the grid.
-pub fn channels(s: &[u8], c: Cursor, g: &mut [[bool; MOST]; MOST]) -> Reading
+pub fn channels(s: &[u8], c: Cursor, g: &mut [[bool; MOST]; MOST]) -> Result<(), RefusedAt>
     requires { c.map.count ≤ most }
     ensures { closed c.map result g.new ≡ channels_read c.at c.map 0 g.old (drop c.at s.now) }
 {
@@ -76,10 +75,10 @@ pub fn channels(s: &[u8], c: Cursor, g: &mut [[bool; MOST]; MOST]) -> Reading
                 at += 3;
             }
             ChannelRead::Whole => {
-                return Reading::Whole;
+                return Ok(());
             }
-            ChannelRead::Refused(r, offset) => {
-                return Reading::Refused(r, offset);
+            ChannelRead::Refused(refusal, at) => {
+                return Err(RefusedAt { refusal, at });
             }
         }
     }

@@ -7,9 +7,8 @@ ghost use Rattle.sheet.specs.Resumed.{ReadsDomain, ReadsFront, past_domain};
 use crate::answer::{Cursor, DomainRead, Front};
 use crate::number::domain_of;
 use model::MOST;
-use model::call::{Reading, Verdict};
 use model::map::{Domain, Map, Region};
-use model::refusal::Refusal;
+use model::refusal::{Refusal, RefusedAt};
 use rights::domain::domain_verdict;
 
 // "body present (1), then the values in number order"
@@ -27,8 +26,8 @@ fn domain_body(s: &[u8], c: Cursor) -> DomainRead
     let d = domain_of(&s[begin..end]);
     let verdict = domain_verdict(map, map.count as usize, d);
     match verdict {
-        Verdict::Accepted => DomainRead::Domain(d),
-        Verdict::Refused(r) => DomainRead::Refused(r),
+        Ok(_) => DomainRead::Domain(d),
+        Err(r) => DomainRead::Refused(r),
     }
 }
 
@@ -97,13 +96,19 @@ pub fn domains(s: &[u8], n: u32, kernel: Region) -> Front
                 c = with_domain(c, d);
             }
             DomainRead::Others => {
-                return Front::new(Reading::Whole, c);
+                return Front::new(Ok(()), c);
             }
             DomainRead::Refused(r) => {
-                return Front::new(Reading::Refused(r, c.at), c);
+                return Front::new(
+                    Err(RefusedAt {
+                        refusal: r,
+                        at: c.at,
+                    }),
+                    c,
+                );
             }
         }
         i += 1;
     }
-    Front::new(Reading::Whole, c)
+    Front::new(Ok(()), c)
 }

@@ -16,7 +16,7 @@ ghost use Rattle.model.specs.Calls.{left, reader, writer};
 use crate::reader::{records, refuse};
 use crate::writer::{channel_count, put_sheet};
 use model::MOST;
-use model::call::{Reading, Sheet, Verdict, Writing};
+use model::call::{Sheet, Writing};
 use model::map::Map;
 use model::refusal::Refusal;
 
@@ -28,8 +28,8 @@ pub fn read(s: &[u8], grid: &mut [[bool; MOST]; MOST]) -> Sheet
     let sheet = records(s, grid);
     let reading = sheet.reading;
     match reading {
-        Reading::Whole => sheet,
-        Reading::Refused(r, at) => refuse(r, at, grid),
+        Ok(_) => sheet,
+        Err(refused) => refuse(refused.refusal, refused.at, grid),
     }
 }
 
@@ -40,13 +40,13 @@ pub fn write(m: Map, g: [[bool; MOST]; MOST], buffer: &mut [u8]) -> Writing
 {
     let verdict = rights::acceptable(m, g);
     match verdict {
-        Verdict::Refused(r) => Writing::Refused(r),
-        Verdict::Accepted => {
+        Err(refusal) => Err(refusal),
+        Ok(_) => {
             let size = 15 + 21 * (m.count as usize) + 3 * channel_count(g);
             if size <= buffer.len() {
-                Writing::Wrote(put_sheet(buffer, m, g))
+                Ok(put_sheet(buffer, m, g))
             } else {
-                Writing::Refused(Refusal::Buffer)
+                Err(Refusal::Buffer)
             }
         }
     }

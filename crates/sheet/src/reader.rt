@@ -9,9 +9,9 @@ use crate::channels::channels;
 use crate::domains::{beginning_map, domains};
 use crate::head::{kernel_record, length_record};
 use model::MOST;
-use model::call::{Reading, Sheet};
+use model::call::Sheet;
 use model::map::{Map, Region};
-use model::refusal::Refusal;
+use model::refusal::{Refusal, RefusedAt};
 
 pub fn no_map() -> Map
     ensures { result ≡ no_map }
@@ -34,7 +34,7 @@ fn refused(r: Refusal, at: usize) -> Front
 {
     let map = no_map();
     let cursor = Cursor { at: at, map: map };
-    Front::new(Reading::Refused(r, at), cursor)
+    Front::new(Err(RefusedAt { refusal: r, at }), cursor)
 }
 
 // The records after the length's, before the channels.
@@ -69,11 +69,11 @@ pub fn records(s: &[u8], grid: &mut [[bool; MOST]; MOST]) -> Sheet
     let map = cursor.map;
     let reading = start.reading;
     match reading {
-        Reading::Refused(r, at) => Sheet {
-            reading: Reading::Refused(r, at),
-            map: map,
+        Err(refused) => Sheet {
+            reading: Err(refused),
+            map,
         },
-        Reading::Whole => {
+        Ok(_) => {
             let close = channels(s, cursor, grid);
             Sheet {
                 reading: close,
@@ -90,7 +90,7 @@ pub fn refuse(r: Refusal, at: usize, g: &mut [[bool; MOST]; MOST]) -> Sheet
     wipe(g);
     let none = no_map();
     Sheet {
-        reading: Reading::Refused(r, at),
+        reading: Err(RefusedAt { refusal: r, at }),
         map: none,
     }
 }

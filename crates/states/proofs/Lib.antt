@@ -1,5 +1,3 @@
 -- What the proofs of several functions share:
---     Turns          one turn of each loop
---     Exits          each exit of the functions that make several tests
-pub mod Turns
-pub mod Exits
+--     Lists          the definitions that go down a number, as what the code makes of a list
+pub mod Lists

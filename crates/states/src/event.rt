@@ -1,14 +1,12 @@
 // What a tick and a word in make of a state.
-ghost use Rattle.std.specs.Prelude.{◌≡◌, List, ℕ, ◌≤◌};
-ghost use Rattle.model.specs.Map.{most};
+ghost use Rattle.std.specs.Prelude.{◌≡◌, List, ℕ};
 ghost use Rattle.model.specs.Events.{gives, tick, word_in};
 
 use crate::receive::received;
-use crate::status::is_waiting;
 use crate::switch::switch;
 use model::event::Answer;
-use model::state::State;
-use rights::channel::is_domain;
+use model::state::{State, Status};
+use rights::count::Count;
 
 #[derive(Clone, Copy)]
 pub struct Happened {
@@ -16,9 +14,9 @@ pub struct Happened {
     pub state: State,
 }
 
-pub fn tick(count: u8, s: State) -> Happened
-    requires { count ≤ most }
-    ensures { (memory : List ℕ) → gives result.answer result.state memory ≡ tick count s memory }
+#[tactic(auto, unfolding(model::specs::Events::tick))]
+pub fn tick(count: Count, s: State) -> Happened
+    ensures { (memory : List ℕ) → gives result.answer result.state memory ≡ tick count.n s memory }
 {
     if s.active == 0 {
         return Happened {
@@ -26,45 +24,39 @@ pub fn tick(count: u8, s: State) -> Happened
             state: s,
         };
     }
-    let t = switch(count, s);
+    let state = switch(count, s);
     Happened {
-        answer: Answer::Switched(t.active),
-        state: t,
+        answer: Answer::Switched(state.active),
+        state,
     }
 }
 
 // "word in, from sender 0; if idle and the receiver becomes ready, it becomes active"
-pub fn word_in(count: u8, s: State, b: u8, word: u32) -> Happened
-    requires { count ≤ most }
-    ensures { (memory : List ℕ) → gives result.answer result.state memory ≡ word_in count s memory b word }
+#[tactic(auto, unfolding(model::specs::Events::word_in))]
+pub fn word_in(count: Count, s: State, b: u8, word: u32) -> Happened
+    ensures { (memory : List ℕ) → gives result.answer result.state memory ≡ word_in count.n s memory b word }
 {
-    if !is_domain(count, b) {
+    if !count.has(b) {
         return Happened {
             answer: Answer::NoDomain(b),
             state: s,
         };
     }
-    let place = (b as usize) - 1;
+    let place = usize::from(b) - 1;
     let c = s.contexts[place];
-    let old = c.mailbox;
-    if old.full {
+    if c.mailbox.full {
         return Happened {
             answer: Answer::Full(b),
             state: s,
         };
     }
-    let mut t = s;
-    t.contexts[place] = received(c, word, 0);
-    let status = c.status;
-    if (s.active == 0) & is_waiting(status) {
-        t.active = b;
-        return Happened {
-            answer: Answer::Taken(b),
-            state: t,
-        };
+    let mut state = s;
+    state.contexts[place] = received(c, word, 0);
+    if s.active == 0 && c.status == Status::Waiting {
+        state.active = b;
     }
     Happened {
         answer: Answer::Taken(b),
-        state: t,
+        state,
     }
 }

@@ -1,113 +1,80 @@
 // "Well formed".
-ghost use Rattle.std.specs.Prelude.{◌≡◌, ◌≤◌, ltb, if◌then◌else◌};
+ghost use Rattle.std.specs.Prelude.{◌≡◌, not};
+ghost use Rattle.std.specs.List.{list_all};
 ghost use Rattle.model.specs.Map.{most};
-ghost use Rattle.model.specs.States.{any_ready, active_good, box_good, context_good, zeros, is_blank, contexts_good, well_formed};
+ghost use Rattle.model.specs.States.{is_ready, active_good, box_good, context_good, is_blank, contexts_good, well_formed};
 
-use crate::status::{is_halted, is_ready, is_waiting};
-use model::MOST;
-use model::state::{Context, Mailbox, State};
+use model::state::{Context, Mailbox, State, Status};
+use rights::count::Count;
 
 // "an empty box has word and sender 0, a full one a sender 0 to N"
+#[tactic(auto, unfolding(model::specs::States::box_good))]
 fn box_good(count: u8, b: Mailbox) -> bool
     ensures { result ≡ box_good count b }
 {
     if b.full {
-        return b.sender <= count;
+        b.sender <= count
+    } else {
+        b == Mailbox::default()
     }
-    (b.word == 0) & (b.sender == 0)
 }
 
 // "a waiting domain's box is empty"
+#[tactic(auto, unfolding(model::specs::States::context_good))]
 fn context_good(count: u8, c: Context) -> bool
     ensures { result ≡ context_good count c }
 {
-    let status = c.status;
-    let b = c.mailbox;
-    !(is_waiting(status) & b.full) & box_good(count, b)
-}
-
-fn zeros(xs: [u32; 8]) -> bool
-    ensures { result ≡ zeros xs 8 }
-{
-    let mut n = 8;
-    while 0 < n {
-        n -= 1;
-        if xs[n] != 0 {
-            return false;
-        }
-    }
-    true
+    !(c.status == Status::Waiting && c.mailbox.full) && box_good(count, c.mailbox)
 }
 
 // "contexts past N are zero and halted"
+#[tactic(auto, using(crate::proofs::Lists::zeros_equal, crate::proofs::Lists::zeros_default), unfolding(model::specs::States::is_blank, model::specs::States::box_good))]
 fn is_blank(c: Context) -> bool
     ensures { result ≡ is_blank c }
 {
-    let registers = c.registers;
-    let status = c.status;
-    let b = c.mailbox;
-    zeros(registers) & (c.counter == 0) & is_halted(status) & !b.full & box_good(0, b)
+    c == Context::default()
 }
 
-// The context at place n, one of a domain or past them.
-fn place_good(count: u8, n: usize, c: Context) -> bool
-    ensures { result ≡ (if ltb n count then context_good count c else is_blank c) }
+fn own_good(count: u8, own: &[Context]) -> bool
+    ensures { result ≡ list_all (context_good count) own.now }
 {
-    if n < (count as usize) {
-        return context_good(count, c);
-    }
-    is_blank(c)
+    own.iter().all(|&c| context_good(count, c))
 }
 
-fn contexts_good(count: u8, s: State) -> bool
-    ensures { result ≡ contexts_good count s most }
+fn past_blank(past: &[Context]) -> bool
+    ensures { result ≡ list_all is_blank past.now }
 {
-    let mut n = MOST;
-    while 0 < n {
-        n -= 1;
-        let c = s.contexts[n];
-        if !place_good(count, n, c) {
-            return false;
-        }
-    }
-    true
+    past.iter().all(|&c| is_blank(c))
 }
 
-fn any_ready(count: u8, s: State) -> bool
-    requires { count ≤ most }
-    ensures { result ≡ any_ready s count }
+#[tactic(auto, using(crate::proofs::Lists::contexts_split))]
+fn contexts_good(count: Count, s: State) -> bool
+    ensures { result ≡ contexts_good count.n s most }
 {
-    let mut n = count as usize;
-    while 0 < n {
-        n -= 1;
-        let c = s.contexts[n];
-        let status = c.status;
-        if is_ready(status) {
-            return true;
-        }
-    }
-    false
+    let (own, past) = s.contexts.split_at(usize::from(count.n));
+    own_good(count.n, own) && past_blank(past)
+}
+
+fn none_ready(own: &[Context]) -> bool
+    ensures { result ≡ list_all (λ c. not (is_ready c.status)) own.now }
+{
+    own.iter().all(|c| c.status != Status::Ready)
 }
 
 // "active is 0 to N; it is 0 exactly if no domain is ready, else that domain is ready"
-fn active_good(count: u8, s: State) -> bool
-    requires { count ≤ most }
-    ensures { result ≡ active_good count s }
+#[tactic(auto, using(crate::proofs::Lists::none_ready), unfolding(model::specs::States::active_good))]
+fn active_good(count: Count, s: State) -> bool
+    ensures { result ≡ active_good count.n s }
 {
-    if count < s.active {
-        return false;
-    }
     if s.active == 0 {
-        return !any_ready(count, s);
+        return none_ready(&s.contexts[..usize::from(count.n)]);
     }
-    let c = s.contexts[(s.active as usize) - 1];
-    let status = c.status;
-    is_ready(status)
+    s.active <= count.n && s.contexts[usize::from(s.active) - 1].status == Status::Ready
 }
 
-pub fn well_formed(count: u8, s: State) -> bool
-    requires { count ≤ most }
-    ensures { result ≡ well_formed count s }
+#[tactic(auto, unfolding(model::specs::States::well_formed))]
+pub fn well_formed(count: Count, s: State) -> bool
+    ensures { result ≡ well_formed count.n s }
 {
-    active_good(count, s) & contexts_good(count, s)
+    active_good(count, s) && contexts_good(count, s)
 }

@@ -5,5 +5,4 @@ pub mod event;
 pub mod good;
 pub mod receive;
 pub mod start;
-pub mod status;
 pub mod switch;

@@ -1,25 +1,31 @@
 // A word comes into a box.
 ghost use Rattle.std.specs.Prelude.{◌≡◌};
-ghost use Rattle.model.specs.States.{received};
+ghost use Rattle.model.specs.States.{received, woken};
 
-use crate::status::woken;
-use model::state::{Context, Mailbox};
+use model::state::{Context, Mailbox, Status};
 
-pub fn received(c: Context, word: u32, from: u8) -> Context
-    ensures { result ≡ received c word from }
+// "A waiting receiver becomes ready, whoever fills its box."
+pub fn woken(x: Status) -> Status
+    ensures { result ≡ woken x }
 {
-    let registers = c.registers;
-    let status = c.status;
-    let next = woken(status);
-    let filled = Mailbox {
+    if x == Status::Waiting {
+        Status::Ready
+    } else {
+        x
+    }
+}
+
+pub fn received(c: Context, word: u32, sender: u8) -> Context
+    ensures { result ≡ received c word sender }
+{
+    let mailbox = Mailbox {
         full: true,
-        word: word,
-        sender: from,
+        word,
+        sender,
     };
     Context {
-        registers: registers,
-        counter: c.counter,
-        status: next,
-        mailbox: filled,
+        status: woken(c.status),
+        mailbox,
+        ..c
     }
 }

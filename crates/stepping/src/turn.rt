@@ -1,8 +1,8 @@
 // What an ending stretch makes of its own context, and which domain is tried next.
 ghost use Rattle.std.specs.Prelude.{◌≡◌};
-ghost use Rattle.model.specs.States.{with_counter, with_status, after};
+ghost use Rattle.model.specs.States.{with_counter, after};
 ghost use Rattle.model.specs.Instructions.{take_into};
-ghost use Rattle.instructions.specs.Told.{loaded, deed};
+ghost use Rattle.instructions.specs.Told.{deed};
 ghost use Rattle.model.specs.declared.event.Answer.{Answer};
 ghost use Rattle.stepping.specs.Turn.{settlement};
 
@@ -21,52 +21,18 @@ pub struct Settled {
     pub tries: u8,
 }
 
-// The context with these registers and this counter.
-pub fn loaded(c: Context, registers: [u32; 8], counter: u32) -> Context
-    ensures { result ≡ loaded c registers counter }
-{
-    let status = c.status;
-    let held = c.mailbox;
-    Context {
-        registers: registers,
-        counter: counter,
-        status: status,
-        mailbox: held,
-    }
-}
-
-pub fn with_status(c: Context, status: Status) -> Context
-    ensures { result ≡ with_status c status }
-{
-    let registers = c.registers;
-    let kept = c.mailbox;
-    Context {
-        registers: registers,
-        counter: c.counter,
-        status: status,
-        mailbox: kept,
-    }
-}
-
 // "receive word into r, then sender into s; the box becomes empty"
 pub fn taken(c: Context, r: u8, s: u8, counter: u32) -> Context
     ensures { result ≡ take_into c (with_counter c counter) r s }
 {
-    let held = c.mailbox;
-    let status = c.status;
     let mut registers = c.registers;
-    set_register(&mut registers, r, held.word);
-    set_register(&mut registers, s, held.sender as u32);
-    let empty = Mailbox {
-        full: false,
-        word: 0,
-        sender: 0,
-    };
+    set_register(&mut registers, r, c.mailbox.word);
+    set_register(&mut registers, s, u32::from(c.mailbox.sender));
     Context {
-        registers: registers,
-        counter: counter,
-        status: status,
-        mailbox: empty,
+        registers,
+        counter,
+        mailbox: Mailbox::default(),
+        ..c
     }
 }
 
@@ -84,11 +50,10 @@ fn goes_on(d: u8, c: Context) -> Settled
 fn leaves(count: u8, d: u8, c: Context, answer: Answer) -> Settled
     ensures { result ≡ record { context = c; answer = answer; next = after count d; tries = count } }
 {
-    let next = after(count, d);
     Settled {
         context: c,
-        answer: answer,
-        next: next,
+        answer,
+        next: after(count, d),
         tries: count,
     }
 }
@@ -98,23 +63,35 @@ fn leaves(count: u8, d: u8, c: Context, answer: Answer) -> Settled
 pub fn settle(count: u8, d: u8, c: Context, went: Went) -> Settled
     ensures { result ≡ settlement count d c (deed c c.registers went) }
 {
-    let registers = c.registers;
     match went {
-        Went::Moved(n) => goes_on(d, loaded(c, registers, n)),
-        Went::Sends(_, _, n) => goes_on(d, loaded(c, registers, n)),
-        Went::Receives(r, s, n) => {
-            let held = c.mailbox;
-            if held.full {
-                return goes_on(d, taken(c, r, s, n));
-            }
-            leaves(count, d, with_status(c, Status::Waiting), Answer::Waits(d))
-        }
-        Went::Yields(n) => leaves(count, d, loaded(c, registers, n), Answer::Ran(d)),
-        Went::Halts => leaves(count, d, with_status(c, Status::Halted), Answer::Halted(d)),
+        Went::Moved(counter) | Went::Sends(_, _, counter) => goes_on(d, Context { counter, ..c }),
+        Went::Receives(r, s, counter) if c.mailbox.full => goes_on(d, taken(c, r, s, counter)),
+        Went::Receives(..) => leaves(
+            count,
+            d,
+            Context {
+                status: Status::Waiting,
+                ..c
+            },
+            Answer::Waits(d),
+        ),
+        Went::Yields(counter) => leaves(count, d, Context { counter, ..c }, Answer::Ran(d)),
+        Went::Halts => leaves(
+            count,
+            d,
+            Context {
+                status: Status::Halted,
+                ..c
+            },
+            Answer::Halted(d),
+        ),
         Went::Faults(reason) => leaves(
             count,
             d,
-            with_status(c, Status::Faulted(reason)),
+            Context {
+                status: Status::Faulted(reason),
+                ..c
+            },
             Answer::Faulted(d, reason),
         ),
     }

@@ -17,10 +17,9 @@ pub fn write_read(
 ) -> Sheet
     ensures { ReadsBack m g buffer.old result grid.new }
 {
-    let written = sheet::write(m, g, buffer);
-    match written {
-        Writing::Wrote(n) => sheet::read(&buffer[..n], grid),
-        Writing::Refused(_) => sheet::read(&buffer[..0], grid),
+    match sheet::write(m, g, buffer) {
+        Ok(n) => sheet::read(&buffer[..n], grid),
+        Err(_) => sheet::read(&buffer[..0], grid),
     }
 }
 
@@ -29,7 +28,5 @@ pub fn read_write(s: &[u8], grid: &mut [[bool; MOST]; MOST], buffer: &mut [u8]) 
     ensures { WritesBack s.now buffer.old result buffer.new }
 {
     let sheet = sheet::read(s, grid);
-    let map = sheet.map;
-    let g = *grid;
-    sheet::write(map, g, buffer)
+    sheet::write(sheet.map, *grid, buffer)
 }

@@ -1,14 +1,12 @@
--- `machine::play` meets its contract. Refused, or the trace of a node that was tested.
+-- Refused, or the trace of a node that was tested.
+use Rattle.std.proofs.Common.{rules}
+use Rattle.model.specs.Calls.{player}
 use Rattle.machine.proofs.Shape.{eight}
-use Rattle.machine.proofs.Calls.{tested, play_refused, play_done}
+use Rattle.machine.proofs.Calls.{tested, play_done}
 use Rattle.machine.proofs.play.Goals as goal
 
-pub play_on-requires : goal.play_on-requires
-play_on-requires c =
-    tested _ _ _ _ c.node_verdict-verdict.ensures c.in-Accepted.is (eight c.args.s _ c.well_formed.1.1.0)
+pub invariant_of-node : goal.invariant_of-node
+invariant_of-node c = record { sound = tested _ _ _ _ c.node_verdict.ensures c.in_default.is (eight c.args.s _ c.well_formed.1.1.0) }
 
-pub returns-in-Refused : goal.returns-in-Refused
-returns-in-Refused c = search play_refused
-
-pub returns-in-Accepted : goal.returns-in-Accepted
-returns-in-Accepted c = search play_done
+pub returns : goal.returns
+returns c = play_done _ _ _ _ c.node_verdict.ensures c.in_default.is c.args.trace.now c.play_on.ensures

@@ -3,8 +3,8 @@
 use Rattle.sheet.specs.ReaderLaws.{closed_whole, closed_refused}
 use Rattle.sheet.proofs.read.Goals as goal
 
-pub returns-in-Whole : goal.returns-in-Whole
-returns-in-Whole c = closed_whole _ _ _ c.records-sheet.ensures c.in-Whole.is
+pub returns-in-Ok : goal.returns-in-Ok
+returns-in-Ok c = closed_whole _ _ _ c.records-sheet.ensures c.in-Ok.is
 
-pub returns-in-Refused : goal.returns-in-Refused
-returns-in-Refused c = closed_refused _ _ _ c.records-sheet.ensures c.in-Refused.is c.refuse.ensures
+pub returns-in-Err : goal.returns-in-Err
+returns-in-Err c = closed_refused _ _ _ c.records-sheet.ensures c.in-Err.is c.refuse.ensures

@@ -8,18 +8,18 @@ use Rattle.trips.proofs.write_read.Goals as goal
 
 pub slice_bounds-read-end : goal.slice_bounds-read-end
 slice_bounds-read-end c =
-    omega (arith, wrote_fits c.args.m c.args.g c.args.buffer.now c.write-written.ensures c.in-Wrote.is)
+    omega (arith, wrote_fits c.args.m c.args.g c.args.buffer.now c.write.ensures c.in-Ok.is)
 
-pub slice_bounds-read-end-in-Wrote : goal.slice_bounds-read-end-in-Wrote
-slice_bounds-read-end-in-Wrote c =
-    let fits = wrote_fits c.args.m c.args.g c.args.buffer.now c.write-written.ensures c.in-Wrote.is in
+pub slice_bounds-read-end-in-Ok : goal.slice_bounds-read-end-in-Ok
+slice_bounds-read-end-in-Ok c =
+    let fits = wrote_fits c.args.m c.args.g c.args.buffer.now c.write.ensures c.in-Ok.is in
     sym (length-take-le _ _ (omega arith))
 
-pub returns-in-Wrote : goal.returns-in-Wrote
-returns-in-Wrote c =
-    reads_back c.args.m c.args.g c.args.buffer.now c.write-written.ensures
+pub returns-in-Ok : goal.returns-in-Ok
+returns-in-Ok c =
+    reads_back c.args.m c.args.g c.args.buffer.now c.write.ensures
     (shaped _ _ _ _ c.well_formed.0 c.well_formed.1.0)
-    c.in-Wrote.is c.read.ensures
+    c.in-Ok.is c.read.ensures
 
-pub returns-in-Refused : goal.returns-in-Refused
-returns-in-Refused c = nothing_written c.args.m c.args.g c.args.buffer.now c.write-written.ensures c.in-Refused.is
+pub returns-in-Err : goal.returns-in-Err
+returns-in-Err c = nothing_written c.args.m c.args.g c.args.buffer.now c.write.ensures c.in-Err.is

@@ -1,7 +1,8 @@
 -- `export::context::context_words` meets its contract. Its words are those of the definition.
+use Rattle.std.proofs.Common.{rules}
 use Rattle.export.specs.StateWords.{context_words}
 use Rattle.export.proofs.context.context_words.Goals as goal
 
 pub returns : goal.returns
 unfolding context_words
-returns c = rw (c.flag-full.ensures, c.high-second.ensures, c.low-first.ensures, c.status_word-kind.ensures, c.status_number-n.ensures)
+returns c = search rules

@@ -1,9 +1,12 @@
 -- `export::state::state_of` meets its contract. Each exit is a law of the definition.
+use Rattle.std.proofs.Common.{rules}
 use Rattle.export.specs.StateLaws.{state_same, state_other}
 use Rattle.export.proofs.state.state_of.Goals as goal
 
-pub returns-then-same : goal.returns-then-same
-returns-then-same c = state_same _ c.unpacked-s.ensures c.packed-back.ensures c.same.ensures c.if-same.true
+pub returns-then-eq : goal.returns-then-eq
+returns-then-eq c =
+    state_same c.args.words.now c.unpacked-s.ensures c.packed.ensures c.eq.ensures (search rules) (search rules) c.if-eq.true
 
-pub returns-else-same : goal.returns-else-same
-returns-else-same c = state_other _ c.unpacked-s.ensures c.packed-back.ensures c.same.ensures c.if-same.false
+pub returns-else-eq : goal.returns-else-eq
+returns-else-eq c =
+    state_other c.args.words.now c.unpacked-s.ensures c.packed.ensures c.eq.ensures (search rules) (search rules) c.if-eq.false

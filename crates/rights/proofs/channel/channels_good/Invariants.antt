@@ -1,5 +1,4 @@
--- `rights::channel::channels_good` meets its contract. The loop's invariant: the cells from p on decide as all do. The measure
--- is the number of cells left.
+-- `rights::channel::channels_good` meets its contract. The loop's invariant: the cells from p on decide as all do.
 use Prim.Native.Nat.{◌*◌, ◌-◌, ◌≤◌}
 use mathlib.Core.Path.{◌≡◌}
 use Rattle.model.specs.Map.{most}
@@ -8,6 +7,3 @@ use Rattle.rights.proofs.channel.channels_good.Given as goal
 
 abbrev pub invariant-loop-p : goal.invariant-loop-p
 invariant-loop-p l = (l.p ≤ most * most) × (channels_good l.count l.g l.p (most * most - l.p) ≡ channels_good l.count l.g 0 (most * most))
-
-abbrev pub decreases-loop-p : goal.decreases-loop-p
-decreases-loop-p l = most * most - l.p

@@ -6,12 +6,12 @@ use Rattle.sheet.proofs.domains.domain_body.Goals as goal
 pub returns-then-s-at-lt20 : goal.returns-then-s-at-lt20
 returns-then-s-at-lt20 c = body_cut _ _ c.requires.0 c.requires.1 c.if-s-at-lt20.true
 
-pub returns-in-Accepted : goal.returns-in-Accepted
-returns-in-Accepted c =
+pub returns-in-Ok : goal.returns-in-Ok
+returns-in-Ok c =
     domain_read _ _ c.requires.0 c.requires.1 _ c.if-s-at-lt20.false c.domain_of-d.ensures
-    (sym c.in-Accepted.ensures)
+    (sym c.in-Ok.ensures)
 
-pub returns-in-Refused : goal.returns-in-Refused
-returns-in-Refused c =
+pub returns-in-Err : goal.returns-in-Err
+returns-in-Err c =
     domain_bad _ _ c.requires.0 c.requires.1 _ c.if-s-at-lt20.false c.domain_of-d.ensures _
-    (sym c.in-Refused.ensures)
+    (sym c.in-Err.ensures)

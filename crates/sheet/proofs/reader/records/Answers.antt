@@ -5,12 +5,12 @@ use Rattle.model.specs.Map.{Grid}
 use Rattle.model.specs.Sheet.{channels_read}
 use Rattle.sheet.proofs.reader.records.Goals as goal
 
-pub returns-in-Refused : goal.returns-in-Refused
-returns-in-Refused c = rw c.in-Refused.is at c.front-start.ensures.reads
+pub returns-in-Err : goal.returns-in-Err
+returns-in-Err c = rw c.in-Err.is at c.front-start.ensures.reads
 
-pub returns-in-Whole : goal.returns-in-Whole
-returns-in-Whole c =
+pub returns-in-Ok : goal.returns-in-Ok
+returns-in-Ok c =
     let x = c.front-start.result.cursor in
     c.channels-close.ensures
     ∙ ap (λ (g : Grid). channels_read x.at x.map 0 g (drop x.at c.args.s.now)) c.wipe.ensures
-    ∙ (rw c.in-Whole.is at c.front-start.ensures.reads)
+    ∙ (rw c.in-Ok.is at c.front-start.ensures.reads)

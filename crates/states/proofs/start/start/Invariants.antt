@@ -1,14 +1,12 @@
--- `states::start::start` meets its contract. The loop's invariant: the domains from i on, put into the contexts as they are, come
--- to what all of them come to. The measure is the number of domains left.
-use Prim.Native.Nat.{◌-◌, ◌≤◌}
-use mathlib.Core.Path.{◌≡◌}
-use lib.ListN.{replicate}
+-- `states::start::start` meets its contract. The loop's invariant: the domains that are left, put into the contexts as they are, come to
+-- what all of them come to.
+use Rattle.std.proofs.Common.{◌≡◌, ◌-◌, replicate, length}
 use Rattle.model.specs.Map.{most}
 use Rattle.model.specs.States.{blank, seated}
 use Rattle.states.proofs.start.start.Given as goal
 
 abbrev pub invariant-loop-i : goal.invariant-loop-i
-invariant-loop-i l = (l.i ≤ l.count) × (l.t.active ≡ 1) × (seated l.t.contexts l.m l.i (l.count - l.i) ≡ seated (replicate most blank) l.m 0 l.count)
-
-abbrev pub decreases-loop-i : goal.decreases-loop-i
-decreases-loop-i l = l.count - l.i
+invariant-loop-i l = record {
+  whole : length l.contexts ≡ most;
+  left : seated l.contexts l.fn.m l.i (l.fn.m.count - l.i) ≡ seated (replicate most blank) l.fn.m 0 l.fn.m.count;
+}

@@ -1,9 +1,0 @@
--- `machine::count::ending` meets its contract. The test fell as the definition's.
-use borrow.Author.Tests.{ne_eqb}
-use Rattle.machine.proofs.count.ending.Goals as goal
-
-pub returns-then-left-eq0 : goal.returns-then-left-eq0
-returns-then-left-eq0 c = rw c.if-left-eq0.true
-
-pub returns : goal.returns
-returns c = rw (ne_eqb c.args.left 0 c.if-left-eq0.false)
