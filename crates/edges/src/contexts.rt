@@ -4,6 +4,7 @@ use crate::table::Pieces;
 use model::state::{Context, Mailbox, Reason, State, Status};
 use std::array;
 
+// The codes are standard input's, which stays.
 fn status(domain: Pieces<'_>) -> Status {
     match domain.number::<u8>(0) {
         0 => Status::Halted,

@@ -14,7 +14,7 @@ fn told(alloc: Global, s: Stepped) -> Result<String, AllocError> {
     format!(in alloc; "{}, active {}", Said(s.reply), s.state.active)
 }
 
-// An event is its kind and, for a word in, the domain and the word.
+// An event is its kind and, for a word in, the domain and the word. The kinds are numbers in standard input, which stays.
 fn event_of(numbers: Pieces<'_>) -> Event {
     match numbers.number::<u8>(0) {
         1 => Event::Step,

@@ -4,6 +4,7 @@ use std::num::ParseIntError;
 use std::str::FromStr;
 
 // Numbers laid into a lent buffer from a place on; what has no room is left out, so that no caller has to have measured.
+// The offset stands beside the buffer: a part would be `get_mut(at..).unwrap_or_default()` at each of five calls, which is no plainer.
 pub fn put<T: FromStr<Err = ParseIntError> + Default + Copy>(to: &mut [T], at: usize, text: &str) {
     if let Some(room) = to.get_mut(at..) {
         for (place, n) in room.iter_mut().zip(text.split_ascii_whitespace()) {
