@@ -2,8 +2,8 @@
 --     eight_again       a list of eight, read place by place, is the list
 --     eight_same        eight things that are the same one by one
 --     eight_mapped      what an array of eight comes to under `map`
---     chunk             a word of a chunk is a word of the block that was cut
---     eight_flattened   eight parts, one after the other
+--     eight_laid        what it is mapped to, flattened: eight parts, one after the other
+--     eight_cut         what the eight chunks of a block are mapped to; chunk: a word of a chunk is a word of the block
 --     alike_pointwise   `==` of two blocks of n words
 -- Assumes nothing.
 use Rattle.std.specs.Prelude.{ℕ, zero, suc, ◌+◌, ◌*◌, ◌<◌, ◌≡◌, refl, Bool, true, false, ◌&&◌, List, [], ◌∷◌, eqb, nat_eq, length, get_or, drop}
@@ -12,7 +12,7 @@ use Rattle.std.specs.Array.{IsMapOf}
 use Rattle.std.specs.Simd.{first_chunks}
 use Rattle.std.specs.Fn.{Called}
 use Rattle.std.specs.Cmp.Lexicographic.{pointwise}
-use Rattle.std.proofs.Common.{sym, ◌∙◌, append_assoc, mul-suc, arith}
+use Rattle.std.proofs.Common.{sym, ap, ◌∙◌, append_assoc, mul-suc, arith}
 use Rattle.std.proofs.lemmas.List.{append-nil, get_or-drop, get_or-take}
 use denote.Param.Members.{Mut}
 use Rattle.export.specs.Words.{alike, eight, parts}
@@ -60,8 +60,23 @@ chunk n (suc k) xs (suc i) j a b =
     let e : n + (n * i + j) ≡ n * suc i + j = omega (arith, mul-suc n i) in
     chunk n k (drop n xs) i j (omega arith) b ∙ get_or-drop n xs (n * i + j) 0 ∙ rw e
 
-pub eight_flattened : (f : ℕ → List ℕ) → flat_map (λ x. x) (eight f) ≡ parts f
-eight_flattened f = simp (append_assoc, append-nil)
+-- eight parts, made of the elements of an array, one after the other
+pub eight_laid :
+    {F A : Type 0} {g : Mut F (A × Unit {0}) (List ℕ)} (h : A → List ℕ) (d : A)
+    → ((p : F) (x : A) (y : List ℕ) (q : F) → Called g p (x, tt) y q → y ≡ h x)
+    → {f : F} {xs : List A} {ys : List (List ℕ)} → IsMapOf g f xs ys 8
+    → {flat block : List ℕ} → flat ≡ flat_map (λ x. x) ys → block ≡ flat → block ≡ parts (λ i. h (get_or xs i d))
+eight_laid h d call {xs = xs} m v w =
+    w ∙ v ∙ ap (flat_map (λ x. x)) (eight_mapped h d [] call m) ∙ simp (append_assoc, append-nil)
+
+-- what eight chunks of a block, as an array, were made into
+pub eight_cut :
+    {F B : Type 0} {g : Mut F (List ℕ × Unit {0}) B} (n : ℕ) (block : List ℕ) (h : List ℕ → B) (e : B)
+    → ((p : F) (x : List ℕ) (y : B) (q : F) → Called g p (x, tt) y q → y ≡ h x)
+    → {f : F} {xs : List (List ℕ)} {ys : List B} → IsMapOf g f xs ys 8
+    → {cs : List (List ℕ)} {k : ℕ} → xs ≡ cs → cs ≡ first_chunks n k block → k ≡ 8
+    → ys ≡ eight (λ i. h (get_or (first_chunks n 8 block) i []))
+eight_cut n block h e call m s c k = eight_mapped h [] e call m ∙ rw (s, c, k)
 
 swapped : (a b c : Bool) → a && (b && c) ≡ b && (a && c)
 swapped true b c = refl

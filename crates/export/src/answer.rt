@@ -19,6 +19,7 @@ fn faulted(d: u8, r: Reason) -> [u32; 5]
     [4, u32::from(d), reason, low, high]
 }
 
+#[tactic(auto, unfolding(crate::specs::AnswerWords::answer_words))]
 pub fn answer_words(a: Answer) -> [u32; 5]
     ensures { result ≡ answer_words a }
 {

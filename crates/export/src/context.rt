@@ -37,26 +37,15 @@ pub fn context(words: [u32; 15]) -> Context
     }
 }
 
+#[tactic(auto, unfolding(crate::specs::StateWords::context_words))]
 pub fn context_words(c: Context) -> [u32; 15]
     ensures { result ≡ context_words c }
 {
-    let r = c.registers;
     let [kind, low, high] = status_words(c.status);
-    [
-        r[0],
-        r[1],
-        r[2],
-        r[3],
-        r[4],
-        r[5],
-        r[6],
-        r[7],
-        c.counter,
-        kind,
-        low,
-        high,
-        u32::from(c.mailbox.full),
-        c.mailbox.word,
-        u32::from(c.mailbox.sender),
-    ]
+    let full = u32::from(c.mailbox.full);
+    let sender = u32::from(c.mailbox.sender);
+    let mut words = [0; 15];
+    words[..8].copy_from_slice(&c.registers);
+    words[8..].copy_from_slice(&[c.counter, kind, low, high, full, c.mailbox.word, sender]);
+    words
 }

@@ -54,6 +54,7 @@ pub fn arcovinda_write(map: &[u32; 44], grid: &[u8; 64], buffer: &mut [u8], wrot
     report_writing(writing, wrote)
 }
 
+#[tactic(auto, using(crate::specs::ExportsLaws::may_done))]
 fn may(
     map: &[u32; 44],
     grid: &[u8; 64],
@@ -110,6 +111,7 @@ pub fn arcovinda_may_fetch(
     may(map, grid, domain, Access::Fetch, address, granted)
 }
 
+#[tactic(auto, using(crate::specs::ExportsLaws::view_refused))]
 pub fn arcovinda_view(
     map: &[u32; 44],
     grid: &[u8; 64],
@@ -137,6 +139,7 @@ pub fn arcovinda_view(
     }
 }
 
+#[tactic(auto, using(crate::specs::ExportsLaws::start_done))]
 pub fn arcovinda_start(map: &[u32; 44], grid: &[u8; 64], state: &mut [u32; 121]) -> u32
     ensures { left result state.new ≡ c_start map.now grid.now }
 {

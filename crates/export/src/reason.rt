@@ -32,6 +32,7 @@ pub fn status_words(s: Status) -> [u32; 3]
 }
 
 // A word that names no status is read as halted.
+#[tactic(auto, using(crate::specs::StateLaws::status_known, crate::specs::StateLaws::status_none))]
 pub fn status(kind: u32, l: u32, h: u32) -> Status
     ensures { result ≡ status_of kind l h }
 {

@@ -7,7 +7,6 @@ use Rattle.std.specs.Prelude.{◌≡◌, Option as Found, ℕ, ◌+◌, ◌-◌,
 use Rattle.std.proofs.Common.{sym, ap, ◌∙◌, arith}
 use Rattle.std.proofs.Math.Option.{some}
 use Rattle.std.proofs.Math.ListN.{get_or-map}
-use Rattle.std.specs.List.{find}
 use borrow.Author.Tests.{le-leb, le-ltb, lt-ltb, leb-true, leb-false}
 use Rattle.model.proofs.BasicsLaws.{by_bool}
 use Rattle.model.specs.Basics.{unless}
@@ -23,6 +22,7 @@ use Rattle.model.specs.declared.state.Context.{Context}
 use Rattle.model.specs.declared.instruction.Decoded.{Decoded}
 use Rattle.instructions.specs.AccessLaws.{first_denied}
 use Rattle.instructions.specs.Home.{home_all}
+use Rattle.instructions.specs.Suspect.{above}
 use Rattle.instructions.specs.Told.{held, lowest_of}
 
 -- ---- the fetch: bytes that start in the code, or at its end
@@ -38,10 +38,6 @@ module _ (own : Domain) where
       (λ k from below. rw (le-leb own.code.begin k (omega arith), lt-ltb k own.code.end below))
 
 -- ---- registers
-
--- the first of them above 7
-abbrev pub above : List ℕ → Found ℕ
-above rs = find (λ r. nat_lt 7 r) rs
 
 checked_above :
     (rs : List ℕ) (p : Plan) → checked rs p ≡ unless (lowest_of (above rs)) (λ r. Plan.end (Deed.faults (Reason.Register r))) p

@@ -1,9 +1,9 @@
 // "One kind byte, then the body": the body's length and the effect, and the registers that it names.
 #![tactic(auto, unfolding(model::specs::Table::row_of, model::specs::Table::table))]
 
-ghost use Rattle.std.specs.Prelude.{◌≡◌, nat_le, nat_lt, None, Some, if◌then◌else◌};
-ghost use Rattle.std.specs.List.{find};
+ghost use Rattle.std.specs.Prelude.{◌≡◌, [], ◌∷◌, nat_le, None, Some, if◌then◌else◌};
 ghost use Rattle.model.specs.Table.{size, registers_of, row_of, decoded};
+ghost use Rattle.instructions.specs.Suspect.{above};
 
 use model::instruction::{Decoded, Effect};
 
@@ -59,21 +59,22 @@ pub fn decode(kind: u8) -> Option<Decoded>
     Some(Decoded { length, effect })
 }
 
-// The register bytes of a body, "in body order".
-fn registers_of(kind: u8, body: &[u8; 5]) -> &[u8]
-    ensures { result.now ≡ registers_of (row_of kind).form body.now }
+// A register byte that names no register.
+fn above(r: u8) -> Option<u8>
+    ensures { result ≡ above (r ∷ []) }
 {
-    match kind {
-        1 | 14..=15 => &body[..1],
-        2..=12 | 17 => &body[..2],
-        16 => &body[1..2],
-        _ => &body[..0],
-    }
+    (7 < r).then_some(r)
 }
 
-// The first of them above 7.
-pub fn no_register(kind: u8, body: &[u8; 5]) -> Option<u8>
-    ensures { result ≡ find (λ r. nat_lt 7 r) (registers_of (row_of kind).form body.now) }
+// "registers above 7 in body order": the first, if there is one.
+pub fn no_register(kind: u8, body: [u8; 5]) -> Option<u8>
+    ensures { result ≡ above (registers_of (row_of kind).form body) }
 {
-    registers_of(kind, body).iter().copied().find(|&r| 7 < r)
+    let [r, s, ..] = body;
+    match kind {
+        1 | 14..=15 => above(r),
+        2..=12 | 17 => above(r).or(above(s)),
+        16 => above(s),
+        _ => None,
+    }
 }

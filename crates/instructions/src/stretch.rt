@@ -34,7 +34,7 @@ impl Held {
             return Err(Reason::Fetch(u64::from(end)));
         }
         let body = peek(memory, counter as usize + 1);
-        if let Some(r) = no_register(kind, &body) {
+        if let Some(r) = no_register(kind, body) {
             return Err(Reason::Register(r));
         }
         self.work(effect, body, counter + 1 + length, registers, memory)

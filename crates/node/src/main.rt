@@ -21,6 +21,7 @@ fn fill<'a, R: Read>(file: &mut R, buffer: &'a mut [u8]) -> &'a mut [u8]
     ensures first { Consumes (R.remaining file.old) (R.remaining file.new) result.now }
 {
     let mut done = 0;
+    // No `read_exact`, which says nothing of a file that is short, and no `read_to_end`, which needs a heap.
     while done < buffer.len() {
         match file.read(&mut buffer[done..]) {
             Ok(0) | Err(_) => break,
@@ -40,7 +41,8 @@ fn load<'a>(rt: &impl Files, path: &str, buffer: &'a mut [u8]) -> &'a mut [u8]
     }
 }
 
-// A write that fails is not told: the program's exit status is always 0. The array is lent as one: main would prove its length at each use.
+// A write that fails is not told: the program's exit status is always 0. The room comes as an array, since `main` has no proof that lends its
+// 1,310,800 bytes as a slice.
 fn show(rt: &impl Print, sheet: &[u8], memory: &mut [u8], trace: &[u8], room: &mut [u8; TEXT]) {
     let text = &mut room[..];
     let n = lines::transcript(sheet, memory, trace, text);
