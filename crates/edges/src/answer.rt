@@ -1,73 +1,84 @@
 // An answer, a status and a box in words.
-use crate::say::{named, refusal, small, wide, word};
-use model::call::Reply;
+use crate::say::Said;
 use model::event::Answer;
-use model::state::{Context, Mailbox, Reason, Status};
-
-fn reason(r: Reason) {
-    match r {
-        Reason::Fetch(a) => wide(b", faulted fetch ", a),
-        Reason::Read(a) => wide(b", faulted read ", a),
-        Reason::Write(a) => wide(b", faulted write ", a),
-        Reason::Kind(b) => small(b", faulted kind ", b),
-        Reason::Register(b) => small(b", faulted register ", b),
-        Reason::Channel(b) => small(b", faulted channel ", b),
-    }
-}
+use model::state::{Context, Mailbox, Reason, State, Status};
+use std::fmt;
 
 // What a call answers in these cases. The others are told by the program's lines.
-fn answer(a: Answer) {
-    match a {
-        Answer::Idle => word(b"idle"),
-        Answer::Ran(d) => small(b"ran ", d),
-        Answer::Switched(d) => small(b"switched ", d),
-        Answer::Taken(d) => small(b"taken ", d),
-        Answer::NoDomain(b) => small(b"no domain ", b),
-        _ => word(b"another answer"),
+impl fmt::Display for Said<Answer> {
+    fn fmt<W: fmt::Write>(&self, f: &mut fmt::Formatter<W>) -> fmt::Result {
+        match self.0 {
+            Answer::Idle => f.write_str("idle"),
+            Answer::Ran(d) => write!(f, "ran {d}"),
+            Answer::Switched(d) => write!(f, "switched {d}"),
+            Answer::Taken(d) => write!(f, "taken {d}"),
+            Answer::NoDomain(d) => write!(f, "no domain {d}"),
+            _ => f.write_str("another answer"),
+        }
     }
 }
 
-pub fn reply(r: Reply) {
-    match r {
-        Reply::Answered(a) => answer(a),
-        Reply::Refused(n) => refusal(n),
+impl fmt::Display for Said<Reason> {
+    fn fmt<W: fmt::Write>(&self, f: &mut fmt::Formatter<W>) -> fmt::Result {
+        match self.0 {
+            Reason::Fetch(a) => write!(f, "fetch {a}"),
+            Reason::Read(a) => write!(f, "read {a}"),
+            Reason::Write(a) => write!(f, "write {a}"),
+            Reason::Kind(k) => write!(f, "kind {k}"),
+            Reason::Register(r) => write!(f, "register {r}"),
+            Reason::Channel(d) => write!(f, "channel {d}"),
+        }
     }
 }
 
-fn status(s: Status) {
-    match s {
-        Status::Ready => word(b", ready"),
-        Status::Waiting => word(b", waiting"),
-        Status::Halted => word(b", halted"),
-        Status::Faulted(r) => reason(r),
+impl fmt::Display for Said<Status> {
+    fn fmt<W: fmt::Write>(&self, f: &mut fmt::Formatter<W>) -> fmt::Result {
+        match self.0 {
+            Status::Ready => f.write_str("ready"),
+            Status::Waiting => f.write_str("waiting"),
+            Status::Halted => f.write_str("halted"),
+            Status::Faulted(r) => write!(f, "faulted {}", Said(r)),
+        }
     }
 }
 
-fn mailbox(b: Mailbox) {
-    if b.full {
-        named(b", box ", b.word);
-        small(b" from ", b.sender);
-    } else {
-        word(b", box empty");
+impl fmt::Display for Said<Mailbox> {
+    fn fmt<W: fmt::Write>(&self, f: &mut fmt::Formatter<W>) -> fmt::Result {
+        let Mailbox { full, word, sender } = self.0;
+        if full {
+            write!(f, "box {word} from {sender}")
+        } else {
+            f.write_str("box empty")
+        }
     }
 }
 
-fn registers(r: [u32; 8]) {
-    let mut i = 0;
-    while i < 8 {
-        named(b" ", r[i]);
-        i += 1;
+impl fmt::Display for Said<Context> {
+    fn fmt<W: fmt::Write>(&self, f: &mut fmt::Formatter<W>) -> fmt::Result {
+        let Context {
+            registers,
+            counter,
+            status,
+            mailbox,
+        } = self.0;
+        write!(f, "at {counter}, registers")?;
+        for r in registers {
+            write!(f, " {r}")?;
+        }
+        write!(f, ", {}, {}", Said(status), Said(mailbox))
     }
 }
 
-// A domain's part of the state.
-pub fn context(c: Context) {
-    let r = c.registers;
-    let s = c.status;
-    let b = c.mailbox;
-    named(b" at ", c.counter);
-    word(b", registers");
-    registers(r);
-    status(s);
-    mailbox(b);
+// Domain d of a state. There is no domain 0, and none past the last.
+#[derive(Clone, Copy)]
+pub struct DomainOf(pub State, pub u8);
+
+impl fmt::Display for DomainOf {
+    fn fmt<W: fmt::Write>(&self, f: &mut fmt::Formatter<W>) -> fmt::Result {
+        let d = self.1;
+        match self.0.contexts.get(usize::from(d).wrapping_sub(1)) {
+            Some(c) => write!(f, ", domain {d} {}", Said(*c)),
+            None => Ok(()),
+        }
+    }
 }

@@ -1,42 +1,37 @@
 // "A batch takes a limit of steps and stops early when idle", by the call itself.
 use crate::after::{play_on, with_active};
-use crate::case_l::{grid, map, put_programs};
-use crate::numbers::{amount, byte, number};
-use crate::say::{refusal, small, wide, word};
-use crate::table::field;
-use model::call::{Batched, Ending};
+use crate::case_l;
+use crate::say::Said;
+use crate::table::Pieces;
+use model::call::Ending;
+use std::alloc::{AllocError, Global};
+use std::fmt;
 
-fn ending(e: Ending) {
-    match e {
-        Ending::Spent => word(b"spent"),
-        Ending::Idle => word(b"idle"),
-        Ending::Refused(r) => refusal(r),
+impl fmt::Display for Said<Ending> {
+    fn fmt<W: fmt::Write>(&self, f: &mut fmt::Formatter<W>) -> fmt::Result {
+        match self.0 {
+            Ending::Spent => f.write_str("spent"),
+            Ending::Idle => f.write_str("idle"),
+        }
     }
-}
-
-fn batched(b: Batched) {
-    let e = b.ending;
-    let s = b.state;
-    wide(b"steps ", b.steps);
-    word(b", ");
-    ending(e);
-    small(b", active ", s.active);
-}
-
-fn batch_in(line: &[u8], memory: &mut [u8]) {
-    let done = play_on(with_active(byte(line, 4)), memory, field(line, 3));
-    let s = done.state;
-    let limit = number(field(line, 6));
-    batched(machine::batch(map(), grid(), s, memory, limit));
 }
 
 // NAME: Batch;PROGRAM;PROGRAM;TRACE;ACTIVE;LENGTH;N
-pub fn batch(line: &[u8]) {
-    let mut space = [0u8; 256];
-    let memory: &mut [u8] = &mut space;
-    put_programs(memory, line);
-    let n = amount(line, 5);
-    if n <= memory.len() {
-        batch_in(line, &mut memory[0..n]);
-    }
+pub fn batch(alloc: Global, case: Pieces<'_>) -> Result<String, AllocError> {
+    let mut memory = case_l::memory(alloc, case, case.number(5))?;
+    let memory = memory.as_mut_slice();
+    let played = play_on(alloc, with_active(case.number(4)), memory, case.text(3))?;
+    let done = machine::batch(
+        case_l::map(),
+        case_l::grid(),
+        played.state,
+        memory,
+        case.number(6),
+    );
+    format!(in alloc;
+        "steps {}, {}, active {}",
+        done.steps,
+        Said(done.ending),
+        done.state.active
+    )
 }

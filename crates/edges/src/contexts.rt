@@ -1,65 +1,41 @@
 // A state by its numbers: a domain is its status and a fault's number, then its box, 1 where it is full, the word and the sender, then its counter and
 // R7. With no number a domain is zero and halted.
-use crate::numbers::{byte, low_byte, low_word, nth};
-use crate::table::field;
-use model::MOST;
+use crate::table::Pieces;
 use model::state::{Context, Mailbox, Reason, State, Status};
+use std::array;
 
-fn reason(k: u64, n: u64) -> Reason {
-    match k {
-        3 => Reason::Fetch(n),
-        4 => Reason::Read(n),
-        5 => Reason::Write(n),
-        6 => Reason::Kind(low_byte(n)),
-        7 => Reason::Register(low_byte(n)),
-        _ => Reason::Channel(low_byte(n)),
-    }
-}
-
-fn status(k: u64, n: u64) -> Status {
-    match k {
+// The codes are standard input's, which stays.
+fn status(domain: Pieces<'_>) -> Status {
+    match domain.number::<u8>(0) {
         0 => Status::Halted,
         1 => Status::Ready,
         2 => Status::Waiting,
-        _ => Status::Faulted(reason(k, n)),
+        3 => Status::Faulted(Reason::Fetch(domain.number(1))),
+        4 => Status::Faulted(Reason::Read(domain.number(1))),
+        5 => Status::Faulted(Reason::Write(domain.number(1))),
+        6 => Status::Faulted(Reason::Kind(domain.number(1))),
+        7 => Status::Faulted(Reason::Register(domain.number(1))),
+        _ => Status::Faulted(Reason::Channel(domain.number(1))),
     }
 }
 
-fn mailbox(domain: &[u8]) -> Mailbox {
-    let full = nth(domain, 2) == 1;
-    let word = low_word(nth(domain, 3));
-    let sender = low_byte(nth(domain, 4));
-    Mailbox {
-        full: full,
-        word: word,
-        sender: sender,
-    }
-}
-
-fn context(domain: &[u8]) -> Context {
-    let mut registers = [0u32; 8];
-    registers[7] = low_word(nth(domain, 6));
-    let status = status(nth(domain, 0), nth(domain, 1));
-    let mailbox = mailbox(domain);
-    let counter = low_word(nth(domain, 5));
+fn context(domain: Pieces<'_>) -> Context {
     Context {
-        registers: registers,
-        counter: counter,
-        status: status,
-        mailbox: mailbox,
+        registers: [0, 0, 0, 0, 0, 0, 0, domain.number(6)],
+        counter: domain.number(5),
+        status: status(domain),
+        mailbox: Mailbox {
+            full: domain.number::<u8>(2) == 1,
+            word: domain.number(3),
+            sender: domain.number(4),
+        },
     }
 }
 
-// Field 2 is the active domain, and fields 3 to 5 are the first three.
-pub fn state(line: &[u8]) -> State {
-    let none = context(b"");
-    let mut contexts = [none; MOST];
-    contexts[0] = context(field(line, 3));
-    contexts[1] = context(field(line, 4));
-    contexts[2] = context(field(line, 5));
-    let active = byte(line, 2);
+// Field 2 is the active domain, and the fields from 3 on are the domains.
+pub fn state(case: Pieces<'_>) -> State {
     State {
-        active: active,
-        contexts: contexts,
+        active: case.number(2),
+        contexts: array::from_fn(|i| context(case.numbers(3 + i))),
     }
 }

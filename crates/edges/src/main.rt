@@ -14,7 +14,6 @@ mod maps;
 mod node;
 mod numbers;
 mod plays;
-mod put;
 mod questions;
 mod say;
 mod starts;
@@ -22,9 +21,15 @@ mod table;
 mod views;
 mod writers;
 
-fn main() {
-    let mut space = io::large_buffer();
-    let text: &mut [u8] = &mut space;
-    let n = io::read_full(0, text);
-    cases::all(table::part(text, 0, n));
+use std::io;
+
+fn main(rt: HostRuntime) -> io::Result<()> {
+    let alloc = rt.alloc();
+    let text = io::read_to_string(alloc, rt.reader())?;
+    for line in text.lines() {
+        if !line.starts_with('#') {
+            rt.println(cases::told(alloc, line)?)?;
+        }
+    }
+    Ok(())
 }

@@ -1,33 +1,33 @@
 // "Playing a trace stops at its first broken record with 11 or 12, its offset and the events done", by the call itself.
 use crate::after::{play_on, with_active};
-use crate::numbers::{amount, byte};
-use crate::say::{refusal, refused_at, size, small, word};
-use crate::table::field;
-use model::call::{Close, Played};
+use crate::say::Said;
+use crate::table::Pieces;
+use model::call::Stop;
+use std::alloc::{AllocError, Global};
+use std::fmt;
 
-fn close(c: Close) {
-    match c {
-        Close::Done => word(b"done"),
-        Close::Broken(r, at) => refused_at(r, at),
-        Close::Refused(r) => refusal(r),
+impl fmt::Display for Said<Stop> {
+    fn fmt<W: fmt::Write>(&self, f: &mut fmt::Formatter<W>) -> fmt::Result {
+        match self.0 {
+            Stop::Broken(r) => Said(r).fmt(f),
+            Stop::Refused(r) => Said(r).fmt(f),
+        }
     }
-}
-
-fn told(p: Played) {
-    let c = p.close;
-    let s = p.state;
-    close(c);
-    size(b", events ", p.events);
-    small(b", active ", s.active);
 }
 
 // NAME: Play;ACTIVE;LENGTH;TRACE
-pub fn play(line: &[u8]) {
-    let mut space = [0u8; 256];
-    let memory: &mut [u8] = &mut space;
-    let s = with_active(byte(line, 1));
-    let n = amount(line, 2);
-    if n <= memory.len() {
-        told(play_on(s, &mut memory[0..n], field(line, 3)));
-    }
+pub fn play(alloc: Global, case: Pieces<'_>) -> Result<String, AllocError> {
+    let mut memory = vec![in alloc; 0; case.number(2)]?;
+    let done = play_on(
+        alloc,
+        with_active(case.number(1)),
+        memory.as_mut_slice(),
+        case.text(3),
+    )?;
+    format!(in alloc;
+        "{}, events {}, active {}",
+        Said(done.close.map(|()| "done")),
+        done.events,
+        done.state.active
+    )
 }

@@ -1,31 +1,34 @@
 // "A public question asks whether domain d may read, write or fetch address a: yes, no, or a refusal."
 use crate::maps::{grid, map};
-use crate::numbers::{byte, number};
-use crate::say::{refusal, word};
-use crate::table::{field, first};
-use model::call::Permission;
+use crate::say::Said;
+use crate::table::Pieces;
 use model::map::Access;
+use std::alloc::{AllocError, Global};
+use std::fmt;
 
-fn access(letter: u8) -> Access {
-    match letter {
-        b'r' => Access::Read,
-        b'w' => Access::Write,
+fn access(word: &str) -> Access {
+    match word {
+        "read" => Access::Read,
+        "write" => Access::Write,
         _ => Access::Fetch,
     }
 }
 
-fn permission(p: Permission) {
-    match p {
-        Permission::Yes => word(b"yes"),
-        Permission::No => word(b"no"),
-        Permission::Refused(r) => refusal(r),
+// The question's answer.
+impl fmt::Display for Said<bool> {
+    fn fmt<W: fmt::Write>(&self, f: &mut fmt::Formatter<W>) -> fmt::Result {
+        f.write_str(if self.0 { "yes" } else { "no" })
     }
 }
 
 // NAME: May;MAP;D;ACCESS;A
-pub fn may(line: &[u8]) {
-    let d = byte(line, 4);
-    let k = access(first(field(line, 5)));
-    let a = number(field(line, 6));
-    permission(rights::question(map(line), grid(line), d, k, a));
+pub fn may(alloc: Global, case: Pieces<'_>) -> Result<String, AllocError> {
+    let answer = rights::question(
+        map(case),
+        grid(case),
+        case.number(4),
+        access(case.text(5)),
+        case.number(6),
+    );
+    Said(answer).to_string(alloc)
 }

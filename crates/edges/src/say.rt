@@ -1,69 +1,41 @@
-// What is written to standard output, piece by piece.
-use crate::table::{find, part, past};
-use lines::number::refusal_number;
-use model::call::Verdict;
-use model::refusal::Refusal;
+// The library's values in words.
+use model::refusal::{Refusal, RefusedAt};
+use std::fmt;
 
-pub fn word(w: &[u8]) {
-    io::write_all(1, w);
-}
-
-// A word and its number.
-pub fn wide(w: &[u8], n: u64) {
-    word(w);
-    io::print_decimal(1, n);
-}
-
-pub fn named(w: &[u8], n: u32) {
-    wide(w, n as u64);
-}
-
-pub fn small(w: &[u8], n: u8) {
-    wide(w, n as u64);
-}
-
-pub fn size(w: &[u8], n: usize) {
-    wide(w, n as u64);
-}
+#[derive(Clone, Copy)]
+pub struct Said<T>(pub T);
 
 // "its number"
-pub fn refusal(r: Refusal) {
-    named(b"", refusal_number(r));
+impl fmt::Display for Said<Refusal> {
+    fn fmt<W: fmt::Write>(&self, f: &mut fmt::Formatter<W>) -> fmt::Result {
+        write!(f, "{}", u32::from(self.0))
+    }
 }
 
 // "as '12 at 7'"
-pub fn refused_at(r: Refusal, at: usize) {
-    refusal(r);
-    size(b" at ", at);
-}
-
-pub fn verdict(v: Verdict) {
-    match v {
-        Verdict::Accepted => word(b"accepted"),
-        Verdict::Refused(r) => refusal(r),
+impl fmt::Display for Said<RefusedAt> {
+    fn fmt<W: fmt::Write>(&self, f: &mut fmt::Formatter<W>) -> fmt::Result {
+        let RefusedAt { refusal, at } = self.0;
+        write!(f, "{} at {at}", Said(refusal))
     }
 }
 
-// A line with its end as a comma, but for the last one's end, which is the case's own; the next line's offset is returned.
-fn piece(lines: &[u8], from: usize) -> usize {
-    let to = find(lines, b'\n', from);
-    let next = past(lines, to);
-    word(part(lines, from, to));
-    if next < lines.len() {
-        word(b", ");
-    }
-    next
-}
-
-// The lines of a transcript in one line. There are no more of them than bytes.
-pub fn joined(lines: &[u8]) {
-    let mut from = 0;
-    let mut i = 0;
-    while i < lines.len() {
-        if lines.len() <= from {
-            return;
+impl<T: Copy, E: Copy> fmt::Display for Said<Result<T, E>>
+where
+    Said<T>: fmt::Display,
+    Said<E>: fmt::Display,
+{
+    fn fmt<W: fmt::Write>(&self, f: &mut fmt::Formatter<W>) -> fmt::Result {
+        match self.0 {
+            Ok(x) => Said(x).fmt(f),
+            Err(e) => Said(e).fmt(f),
         }
-        from = piece(lines, from);
-        i += 1;
+    }
+}
+
+// A call that has nothing to give is told by a word of the case's own.
+impl fmt::Display for Said<&'static str> {
+    fn fmt<W: fmt::Write>(&self, f: &mut fmt::Formatter<W>) -> fmt::Result {
+        f.write_str(self.0)
     }
 }

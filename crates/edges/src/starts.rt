@@ -1,24 +1,17 @@
 // "Other calls test the map as the writer would meet it (count and unused entries, 3, 4 for the kernel, then 4, 5, 6 for each domain in turn,
 // then 7)": at start. "a refused start gives active 0 and every context zero and halted".
-use crate::after::context_of;
+use crate::answer::DomainOf;
 use crate::maps::{grid, map};
-use crate::numbers::byte;
-use crate::say::{small, verdict};
-use model::state::State;
-
-fn seen(s: State, d: u8) {
-    if 0 < d {
-        context_of(s, d);
-    } else {
-        small(b", active ", s.active);
-    }
-}
+use crate::say::Said;
+use crate::table::Pieces;
+use std::alloc::{AllocError, Global};
 
 // NAME: Start;MAP;D
-pub fn start(line: &[u8]) {
-    let started = machine::start(map(line), grid(line));
-    let said = started.verdict;
-    let s = started.state;
-    verdict(said);
-    seen(s, byte(line, 4));
+pub fn start(alloc: Global, case: Pieces<'_>) -> Result<String, AllocError> {
+    let started = machine::start(map(case), grid(case));
+    let verdict = Said(started.verdict.map(|()| "accepted"));
+    match case.number(4) {
+        0 => format!(in alloc; "{verdict}, active {}", started.state.active),
+        d => format!(in alloc; "{verdict}{}", DomainOf(started.state, d)),
+    }
 }

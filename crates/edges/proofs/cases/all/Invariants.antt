@@ -1,7 +1,0 @@
--- `edges::cases::all` is safe and ends. The measure is how many turns are left.
--- Assumes nothing.
-use Rattle.std.proofs.Common.{length, ◌-◌}
-use Rattle.edges.proofs.cases.all.Given as goal
-
-abbrev pub decreases-loop-i : goal.decreases-loop-i
-decreases-loop-i l = length l.text - l.i
