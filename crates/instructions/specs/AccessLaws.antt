@@ -4,10 +4,23 @@ use Rattle.std.specs.Prelude.{◌≡◌, ℕ, zero, suc, ◌+◌, ◌-◌, ◌<�
 use Rattle.std.proofs.Common.{sym, arith, ltb-true, ltb-false}
 use Rattle.std.proofs.Math.Option.{none, some}
 use Rattle.model.proofs.BasicsLaws.{by_bool}
+use Rattle.model.proofs.LoopLaws.{back}
 use Rattle.model.specs.Map.{lowest}
 use Rattle.instructions.specs.Told.{lowest_of}
 
 module _ (allowed : ℕ → Bool) where
+  -- where the first is allowed, the search goes on
+  pub lowest_on : (a n : ℕ) → 0 < n → allowed a ≡ true → lowest allowed a n ≡ lowest allowed (a + 1) (n - 1)
+  unfolding lowest
+  lowest_on a zero h e = absurd (omega arith)
+  lowest_on a (suc n) h e = rw (e, back n)
+
+  -- where it is denied, it is the lowest
+  pub lowest_here : (a n : ℕ) → 0 < n → allowed a ≡ false → lowest allowed a n ≡ some a
+  unfolding lowest
+  lowest_here a zero h e = absurd (omega arith)
+  lowest_here a (suc n) h e = rw e
+
   abbrev Allowed : ℕ → ℕ → Type 0
   Allowed a past = (k : ℕ) → a ≤ k → k < past → allowed k ≡ true
 

@@ -1,21 +1,28 @@
 -- Laws of Puts.
---     puts_past       where there is no room
---     puts_append     a text in two parts
---     puts_after      behind a front: as far as the buffer goes, and its rest as it was
---     puts_laid       .. from the buffer's front
+--     put_room, put_past        one byte, where there is room and where there is none
+--     puts_past                 a text where there is no room
+--     puts_append, puts_then, puts_three, puts_four    a text in parts
+--     puts_next                 one byte more of a text
+--     puts_after                behind a front: as far as the buffer goes, and its rest as it was
+--     puts_laid                 .. from the buffer's front
 -- Assumes nothing.
-use Rattle.std.specs.Prelude.{ℕ, ◌+◌, ◌≤◌, min, ◌≡◌, refl, List, [], ◌∷◌, ◌++◌, length, take, drop}
-use Rattle.std.proofs.Common.{sym, ap, ◌∙◌, append-nil, arith, zero-add, length-append, lt-ltb, le-ltb}
+use Rattle.std.specs.Prelude.{ℕ, ◌+◌, ◌≤◌, ◌<◌, min, ◌≡◌, refl, List, [], ◌∷◌, ◌++◌, length, get_or, set, take, drop}
+use Rattle.std.proofs.Common.{sym, ap, ◌∙◌, append-nil, arith, zero-add, length-append, take-suc, lt-ltb, le-ltb}
+use Rattle.std.proofs.Math.Numerals.{suc-eq-add-one}
 use Rattle.std.proofs.lemmas.List.{set_at}
 use Rattle.std.proofs.Math.Seq.{drop-nil, append_snoc}
 use Rattle.model.specs.Calls.{left}
 use Rattle.model.specs.Program.{laid}
 use Rattle.lines.specs.Puts.{Place, put, puts}
 
--- a byte where there is no room, and a text
-put_past : (at b : ℕ) (buffer : List ℕ) → length buffer ≤ at → left at buffer ≡ put (left at buffer) b
-unfolding put
-put_past at b buffer h = rw (le-ltb at (length buffer) h)
+module _ (at b : ℕ) (buffer : List ℕ) where
+  pub put_room : at < length buffer → left (at + 1) (set buffer at b) ≡ puts (left at buffer) (b ∷ [])
+  unfolding puts put
+  put_room h = rw (lt-ltb at (length buffer) h)
+
+  pub put_past : length buffer ≤ at → left at buffer ≡ puts (left at buffer) (b ∷ [])
+  unfolding puts put
+  put_past h = rw (le-ltb at (length buffer) h)
 
 pub puts_past : (at : ℕ) (text buffer : List ℕ) → length buffer ≤ at → left at buffer ≡ puts (left at buffer) text
 unfolding puts
@@ -26,6 +33,24 @@ pub puts_append : (x : Place) (xs ys : List ℕ) → puts x (xs ++ ys) ≡ puts 
 unfolding puts
 puts_append x [] ys = refl
 puts_append x (b ∷ xs) ys = puts_append (put x b) xs ys
+
+pub puts_then : (x : Place) (xs ys : List ℕ) {y z : Place} → y ≡ puts x xs → z ≡ puts y ys → z ≡ puts x (xs ++ ys)
+puts_then x xs ys e f = f ∙ ap (λ p. puts p ys) e ∙ sym (puts_append x xs ys)
+
+-- .. in three, in four
+module _ (x : Place) (ws xs ys : List ℕ) {w y z : Place} (e : w ≡ puts x ws) (f : y ≡ puts w xs) (g : z ≡ puts y ys) where
+  pub puts_three : z ≡ puts x (ws ++ xs ++ ys)
+  puts_three = puts_then x (ws ++ xs) ys (puts_then x ws xs e f) g
+
+  pub puts_four : (zs : List ℕ) {v : Place} → v ≡ puts z zs → v ≡ puts x (ws ++ xs ++ ys ++ zs)
+  puts_four zs h = puts_then x (ws ++ xs ++ ys) zs puts_three h
+
+pub puts_next :
+    (x : Place) (w : List ℕ) (i : ℕ) {y z : Place} → i < length w → y ≡ puts x (take i w) → z ≡ puts y (get_or w i 0 ∷ [])
+    → z ≡ puts x (take (i + 1) w)
+puts_next x w i h e f =
+    puts_then x (take i w) (get_or w i 0 ∷ []) e f
+    ∙ ap (puts x) (sym (take-suc w i 0 h) ∙ ap (λ n. take n w) (suc-eq-add-one i))
 
 -- one byte at the end of a front: in the place of the next one, or nowhere
 put_after : (front rest : List ℕ) (c b : ℕ) → put (left (length front) (front ++ c ∷ rest)) b ≡ left (length front + 1) (front ++ b ∷ rest)

@@ -1,4 +1,5 @@
 -- What the sheet's reader and the view's companion call tell of what is printed.
+--     laid_out                                    a text that is put from the buffer's front on
 --     told_refused, told_accepted, told_long      whether the memory is as long as the map says
 --     printed_refused, printed_whole, whole_accepted      what was read of a sheet
 -- Assumes nothing.
@@ -13,13 +14,19 @@ use Rattle.model.specs.Refusals.{◌▸◌, accepts}
 use Rattle.model.proofs.RefusalsLaws.{check_true, acceptable}
 use Rattle.model.specs.Sheet.{Found, sheet_read}
 use Rattle.model.specs.Calls.{left, as_long, lent_verdict, reported, reader}
-use Rattle.model.specs.Program.{prints, refusal_line, refusal_at_line, unless_refused, of_trace, of_sheet, transcript}
+use Rattle.model.specs.Program.{prints, refusal_line, refusal_at_line, unless_refused, of_trace, of_sheet, transcript, shown}
 use Rattle.model.specs.declared.map.Map.{Map}
 use Rattle.model.specs.declared.refusal.Refusal.{Refusal}
 use Rattle.model.specs.Answers.{Verdict, Reading, refused_at}
 use Rattle.model.specs.declared.call.Sheet.{Sheet}
 use Rattle.promises.specs.Sheets.{write_after_read}
+use Rattle.lines.specs.Puts.{Place, puts}
+use Rattle.lines.specs.PutsLaws.{puts_laid}
 use Rattle.lines.specs.Telling.{of_map}
+
+pub laid_out :
+    (text memory buffer : List ℕ) {y : Place} → y ≡ puts (left 0 buffer) text → left y memory ≡ shown (prints text memory) buffer
+laid_out text memory buffer e = ap (λ p. left p memory) (e ∙ puts_laid buffer text)
 
 then_accepted : (v : Verdict) → v ▸ Ok tt ≡ v
 then_accepted (Ok tt) = refl
