@@ -1,4 +1,4 @@
-// The calls of crates rights, sheet and machine.
+// The calls of crates rights, sheet and machine, with the parameters that they have.
 ghost use Rattle.std.specs.Prelude.{◌≡◌};
 ghost use Rattle.model.specs.Calls.{left};
 ghost use Rattle.model.specs.declared.event.Event.{Event};

@@ -1,11 +1,12 @@
 -- A definition that tests the first n places takes the last one first; the code walks a list from its front. What both find is the same.
 --     each_place     a test of each of the first n places, as the definitions recurse
 --     walked         walking a list but for its first k elements is testing each place that is not below k
---     walked_front   walking the first n elements of a list is testing each place below n
+--     walked_front   walking the first n elements of a list is testing each place below n, where a place past its end passes
 -- Assumes nothing.
 use Rattle.std.specs.Prelude.{ℕ, zero, suc, ◌≤◌, ◌<◌, ◌≡◌, refl, Bool, true, false, ◌&&◌, List, [], ◌∷◌, length, get_or, take, drop}
 use Rattle.std.specs.List.{list_all}
 use Rattle.std.proofs.Common.{arith, sym, ◌∙◌, ap}
+use Rattle.std.proofs.Math.Seq.{take-nil}
 
 unfoldable pub each_place : (ℕ → Bool) → ℕ → Bool
 each_place q zero = true
@@ -36,11 +37,12 @@ module _ {X : Type 0} (p : X → Bool) (d : X) where
       sym (shift q (length xs) ∙ ap (λ b. b && each_place (λ i. q (suc i)) (length xs)) (low 0 (omega arith)) ∙ sym rest)
 
   pub walked_front :
-      (n : ℕ) (xs : List X) (q : ℕ → Bool) → n ≤ length xs → ((i : ℕ) → i < n → q i ≡ p (get_or xs i d))
-      → list_all p (take n xs) ≡ each_place q n
+      p d ≡ true → (n : ℕ) (xs : List X) (q : ℕ → Bool) → ((i : ℕ) → i < n → q i ≡ p (get_or xs i d)) → list_all p (take n xs) ≡ each_place q n
   unfolding each_place
-  walked_front zero xs q h each = refl
-  walked_front (suc n) [] q h each = absurd (omega arith)
-  walked_front (suc n) (x ∷ xs) q h each =
-      let rest = walked_front n xs (λ i. q (suc i)) (omega (arith, h)) (λ i l. each (suc i) (omega (arith, l))) in
+  walked_front past zero xs q each = refl
+  walked_front past (suc n) [] q each =
+      let rest = walked_front past n [] (λ i. q (suc i)) (λ i l. each (suc i) (omega (arith, l))) in
+      sym (shift q n ∙ ap (λ b. b && each_place (λ i. q (suc i)) n) (each 0 (omega arith) ∙ past) ∙ sym (ap (list_all p) (sym (take-nil n)) ∙ rest))
+  walked_front past (suc n) (x ∷ xs) q each =
+      let rest = walked_front past n xs (λ i. q (suc i)) (λ i l. each (suc i) (omega (arith, l))) in
       sym (shift q n ∙ ap (λ b. b && each_place (λ i. q (suc i)) n) (each 0 (omega arith)) ∙ ap (λ b. p x && b) (sym rest))

@@ -5,8 +5,9 @@ use Rattle.std.specs.List.{list_all}
 use Rattle.std.proofs.Common.{arith, sym, ◌∙◌, ap}
 use borrow.Author.Tests.{leb-true, leb-false, le-ltb, lt-ltb}
 use Rattle.model.proofs.LoopLaws.{back}
+use Rattle.model.proofs.BasicsLaws.{by_bool}
 use Rattle.model.proofs.WalkLaws.{each_place, walked, walked_front}
-use Rattle.model.specs.Map.{most, absent, overlaps, nth, Grid}
+use Rattle.model.specs.Map.{most, absent, filled, overlaps, nth}
 use Rattle.model.specs.Refusals.{◌▸◌, zero_domain, unused_zero, free_of, clear, domain_verdict, domains_verdict, cell, from, to, is_channel, channels_good}
 use Rattle.model.specs.declared.map.Region.{Region}
 use Rattle.model.specs.declared.map.Map.{Map}
@@ -35,9 +36,14 @@ clear_places m r zero = refl
 clear_places m r (suc n) =
     rw (clear_places m r n) (sym (and_assoc (free_of r (nth m n)) (each_place (λ i. free_of r (nth m i)) n) (not (overlaps r m.kernel))))
 
+-- what is nowhere shares no address with anything
+free_of_absent : (r : Region) → free_of r absent ≡ true
+unfolding overlaps
+free_of_absent r = by_bool (filled r) (λ e. rw e) (λ e. rw e)
+
 pub clear_walk :
-    (m : Map) (r : Region) (n : ℕ) → n ≤ length m.domains
-    → list_all (free_of r) (take n m.domains) && not (overlaps r m.kernel) ≡ clear m r n
-clear_walk m r n h =
-    ap (λ b. b && not (overlaps r m.kernel)) (walked_front (free_of r) absent n m.domains (λ i. free_of r (nth m i)) h (λ i l. refl))
+    (m : Map) (r : Region) (n : ℕ) → list_all (free_of r) (take n m.domains) && not (overlaps r m.kernel) ≡ clear m r n
+clear_walk m r n =
+    ap (λ b. b && not (overlaps r m.kernel))
+    (walked_front (free_of r) absent (free_of_absent r) n m.domains (λ i. free_of r (nth m i)) (λ i l. refl))
     ∙ sym (clear_places m r n)

@@ -1,5 +1,5 @@
 // Tests on a domain: what it may do, and whether it stands well in its map.
-ghost use Rattle.std.specs.Prelude.{◌≡◌, ◌≤◌, drop};
+ghost use Rattle.std.specs.Prelude.{◌≡◌, ◌≤◌, take, drop};
 ghost use Rattle.std.specs.List.{list_all};
 ghost use Rattle.model.specs.Map.{most, may};
 ghost use Rattle.model.specs.Refusals.{counted, zero_domain, unused_zero, free_of, clear, domain_verdict, domains_verdict};
@@ -58,25 +58,23 @@ fn free_of(r: Region, d: Domain) -> bool
     !overlaps(r, d.code) & !overlaps(r, d.data)
 }
 
-fn free_of_each(r: Region, domains: &[Domain]) -> bool
-    ensures { result ≡ list_all (free_of r) domains.now }
+fn free_of_first(r: Region, domains: &[Domain], i: usize) -> bool
+    ensures { result ≡ list_all (free_of r) (take i domains.now) }
 {
-    domains.iter().all(|&d| free_of(r, d))
+    domains.iter().take(i).all(|&d| free_of(r, d))
 }
 
 // r shares no address with the kernel, nor with one of the first i domains.
 #[tactic(auto, using(crate::proofs::Walks::clear_walk))]
 fn clear(m: Map, r: Region, i: usize) -> bool
-    requires { i ≤ most }
     ensures { result ≡ clear m r i }
 {
-    free_of_each(r, &m.domains[..i]) & !overlaps(r, m.kernel)
+    free_of_first(r, &m.domains, i) & !overlaps(r, m.kernel)
 }
 
 // 4, 5 and 6 for a domain that stands after the first i.
 #[tactic(auto, unfolding(model::specs::Refusals::domain_verdict))]
 pub fn domain_verdict(m: Map, i: usize, d: Domain) -> Verdict
-    requires { i ≤ most }
     ensures { result ≡ domain_verdict m i d }
 {
     check(within(m.length, d.code), Refusal::Bounds)?;

@@ -1,4 +1,5 @@
-// Is a map with its grid acceptable; and the public question, whether a domain may read, write or fetch an address.
+// Is a map with its grid acceptable; and the public question, whether a domain may read, write or fetch an address. Map and grid stay two
+// parameters: document 01 asks for "an array of eight arrays passed by value beside the map struct".
 #![tactic(auto)]
 
 pub mod channel;

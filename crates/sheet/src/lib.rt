@@ -1,4 +1,5 @@
-// The sheet's reader and writer: bytes to a map and its grid, and back.
+// The sheet's reader and writer: bytes to a map and its grid, and back. Map and grid stay two parameters: document 01 asks for "an array of
+// eight arrays passed by value beside the map struct".
 #![tactic(auto)]
 
 mod channels;
