@@ -1,18 +1,18 @@
 -- Laws for code that takes blocks apart and lays them.
 --     eight_again       a list of eight, read place by place, is the list
 --     eight_same        eight things that are the same one by one
---     eight_mapped      what an array of eight comes to under `map`
---     eight_laid        what it is mapped to, flattened: eight parts, one after the other
---     eight_cut         what the eight chunks of a block are mapped to; chunk: a word of a chunk is a word of the block
+--     eight_made        what `from_fn` makes, of a closure that changes nothing
+--     eight_laid        eight parts, flattened and copied: one after the other
+--     chunk             a word of a chunk is a word of the block that was cut
 --     alike_pointwise   `==` of two blocks of n words
 -- Assumes nothing.
-use Rattle.std.specs.Prelude.{ℕ, zero, suc, ◌+◌, ◌*◌, ◌<◌, ◌≡◌, refl, Bool, true, false, ◌&&◌, List, [], ◌∷◌, eqb, nat_eq, length, get_or, drop}
+use Rattle.std.specs.Prelude.{ℕ, zero, suc, ◌+◌, ◌*◌, ◌<◌, ◌≤◌, ◌≡◌, refl, Bool, true, false, ◌&&◌, List, [], ◌∷◌, eqb, nat_eq, length, get_or, drop}
 use Rattle.std.specs.List.{flat_map}
-use Rattle.std.specs.Array.{IsMapOf}
-use Rattle.std.specs.Simd.{first_chunks}
+use Rattle.std.specs.Array.{IsFromFnResultFrom, IsFromFnResult}
 use Rattle.std.specs.Fn.{Called}
+use Rattle.std.specs.Simd.{first_chunks}
 use Rattle.std.specs.Cmp.Lexicographic.{pointwise}
-use Rattle.std.proofs.Common.{sym, ap, ◌∙◌, append_assoc, mul-suc, arith}
+use Rattle.std.proofs.Common.{sym, subst, ap, ◌∙◌, append_assoc, mul-suc, arith}
 use Rattle.std.proofs.lemmas.List.{append-nil, get_or-drop, get_or-take}
 use denote.Param.Members.{Mut}
 use Rattle.export.specs.Words.{alike, eight, parts}
@@ -42,14 +42,26 @@ eight_same f g e =
       e 7 (omega arith),
     )
 
--- h is what each call gives; d and e stand past the ends of the two arrays
-pub eight_mapped :
-    {F A B : Type 0} {g : Mut F (A × Unit {0}) B} (h : A → B) (d : A) (e : B)
-    → ((p : F) (x : A) (y : B) (q : F) → Called g p (x, tt) y q → y ≡ h x)
-    → {f : F} {xs : List A} {ys : List B} → IsMapOf g f xs ys 8 → ys ≡ eight (λ i. h (get_or xs i d))
-eight_mapped h d e call {xs = xs} {ys = ys} m =
-    sym (eight_again ys e m.long)
-    ∙ eight_same _ _ (λ i l. let t = m.at i d e l in call t.0 (get_or xs i d) (get_or ys i e) t.1 t.2)
+-- calls of a closure that no call changes: h is what each gives
+module _ {F B : Type 0} {g : Mut F (ℕ × Unit {0}) B} {f : F} (h : ℕ → B)
+    (call : (i : ℕ) (y : B) (q : F) → i < 8 → Called g f (i, tt) y q → (q ≡ f) × (y ≡ h i)) where
+  made_from :
+      (ys : List B) (i n : ℕ) (p : F) → i + n ≤ 8 → p ≡ f → IsFromFnResultFrom g p ys i n
+      → (k : ℕ) (d : B) → k < n → get_or ys (i + k) d ≡ h (i + k)
+  made_from ys i zero p b e r k d l = absurd (omega arith)
+  made_from ys i (suc n) p b e (q, y, x, c, r) zero d l =
+      let t = call i y q (omega arith) (subst (λ p. Called g p (i, tt) y q) e c) in
+      let z : i + 0 ≡ i = omega arith in
+      rw z (x.1 d ∙ t.1)
+  made_from ys i (suc n) p b e (q, y, x, c, r) (suc k) d l =
+      let t = call i y q (omega arith) (subst (λ p. Called g p (i, tt) y q) e c) in
+      let z : i + suc k ≡ (i + 1) + k = omega arith in
+      rw z (made_from ys (i + 1) n q (omega arith) t.0 r k d (omega arith))
+
+  -- d stands past the array's end
+  pub eight_made : (d : B) {ys : List B} → IsFromFnResult g f ys 8 → ys ≡ eight h
+  eight_made d {ys = ys} r =
+      sym (eight_again ys d r.long) ∙ eight_same _ _ (λ i l. made_from ys 0 8 f (omega arith) refl r.each i d l)
 
 pub chunk :
     (n k : ℕ) (xs : List ℕ) (i j : ℕ) → i < k → j < n
@@ -60,23 +72,11 @@ chunk n (suc k) xs (suc i) j a b =
     let e : n + (n * i + j) ≡ n * suc i + j = omega (arith, mul-suc n i) in
     chunk n k (drop n xs) i j (omega arith) b ∙ get_or-drop n xs (n * i + j) 0 ∙ rw e
 
--- eight parts, made of the elements of an array, one after the other
+-- eight parts, flattened and copied into a block
 pub eight_laid :
-    {F A : Type 0} {g : Mut F (A × Unit {0}) (List ℕ)} (h : A → List ℕ) (d : A)
-    → ((p : F) (x : A) (y : List ℕ) (q : F) → Called g p (x, tt) y q → y ≡ h x)
-    → {f : F} {xs : List A} {ys : List (List ℕ)} → IsMapOf g f xs ys 8
-    → {flat block : List ℕ} → flat ≡ flat_map (λ x. x) ys → block ≡ flat → block ≡ parts (λ i. h (get_or xs i d))
-eight_laid h d call {xs = xs} m v w =
-    w ∙ v ∙ ap (flat_map (λ x. x)) (eight_mapped h d [] call m) ∙ simp (append_assoc, append-nil)
-
--- what eight chunks of a block, as an array, were made into
-pub eight_cut :
-    {F B : Type 0} {g : Mut F (List ℕ × Unit {0}) B} (n : ℕ) (block : List ℕ) (h : List ℕ → B) (e : B)
-    → ((p : F) (x : List ℕ) (y : B) (q : F) → Called g p (x, tt) y q → y ≡ h x)
-    → {f : F} {xs : List (List ℕ)} {ys : List B} → IsMapOf g f xs ys 8
-    → {cs : List (List ℕ)} {k : ℕ} → xs ≡ cs → cs ≡ first_chunks n k block → k ≡ 8
-    → ys ≡ eight (λ i. h (get_or (first_chunks n 8 block) i []))
-eight_cut n block h e call m s c k = eight_mapped h [] e call m ∙ rw (s, c, k)
+    (f : ℕ → List ℕ) {ys : List (List ℕ)} → ys ≡ eight f
+    → {flat block : List ℕ} → flat ≡ flat_map (λ x. x) ys → block ≡ flat → block ≡ parts f
+eight_laid f e v w = w ∙ v ∙ ap (flat_map (λ x. x)) e ∙ simp (append_assoc, append-nil)
 
 swapped : (a b c : Bool) → a && (b && c) ≡ b && (a && c)
 swapped true b c = refl

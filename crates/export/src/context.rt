@@ -8,25 +8,9 @@ use model::state::{Context, Mailbox};
 pub fn context(words: [u32; 15]) -> Context
     ensures { result ≡ context_from words 0 }
 {
-    let [
-        a,
-        b,
-        c,
-        d,
-        e,
-        f,
-        g,
-        h,
-        counter,
-        kind,
-        low,
-        high,
-        full,
-        word,
-        sender,
-    ] = words;
+    let [.., counter, kind, low, high, full, word, sender] = words;
     Context {
-        registers: [a, b, c, d, e, f, g, h],
+        registers: *words.first_chunk().unwrap(),
         counter,
         status: status(kind, low, high),
         mailbox: Mailbox {

@@ -1,8 +1,11 @@
 // A map as 44 words: length, kernel, count, then five a domain.
-ghost use Rattle.std.specs.Prelude.{◌≡◌};
+ghost use Rattle.std.specs.Prelude.{◌≡◌, ◌<◌, [], length, get_or};
+ghost use Rattle.model.specs.Map.{absent};
 ghost use Rattle.export.specs.MapWords.{domain_from, map_of, domain_words, map_words};
 
+use model::MOST;
 use model::map::{Domain, Map, Region};
+use std::array::from_fn;
 
 fn domain(words: [u32; 5]) -> Domain
     ensures { result ≡ domain_from words 0 }
@@ -32,7 +35,12 @@ pub fn map_of(words: &[u32; 44]) -> Map
             end: words[2],
         },
         count: u8::try_from(words[3]).unwrap_or(u8::MAX),
-        domains: domains.as_array().unwrap().map(domain),
+        domains: from_fn(
+            |i: usize| -> Domain
+                requires { i < length domains.now }
+                ensures { result ≡ domain_from (get_or domains.entry.now i []) 0 }
+            { domain(domains[i]) },
+        ),
     }
 }
 
@@ -46,7 +54,12 @@ pub fn map_words(m: Map) -> [u32; 44]
     ensures { result ≡ map_words m }
 {
     let head = [m.length, m.kernel.begin, m.kernel.end, u32::from(m.count)];
-    let domains = m.domains.map(domain_words);
+    let domains: [[u32; 5]; MOST] = from_fn(
+        |i: usize| -> [u32; 5]
+            requires { i < 8 }
+            ensures { result ≡ domain_words (get_or m.domains i absent) }
+        { domain_words(m.domains[i]) },
+    );
     let mut words = [0; 44];
     words[..4].copy_from_slice(&head);
     words[4..].copy_from_slice(domains.as_flattened());

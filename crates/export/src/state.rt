@@ -1,9 +1,13 @@
-// A state as 121 words: active, then 15 a context.
-ghost use Rattle.std.specs.Prelude.{◌≡◌};
-ghost use Rattle.export.specs.StateWords.{unpacked, packed, state_of};
+// A state as 121 words: active, then 15 a context. Its parts are made by from_fn: with map, which moves them through an iterator, this takes
+// twice as long.
+ghost use Rattle.std.specs.Prelude.{◌≡◌, ◌<◌, [], length, get_or};
+ghost use Rattle.model.specs.States.{missing};
+ghost use Rattle.export.specs.StateWords.{context_from, context_words, unpacked, packed, state_of};
 
 use crate::context::{context, context_words};
-use model::state::State;
+use model::MOST;
+use model::state::{Context, State};
+use std::array::from_fn;
 
 fn unpacked(words: &[u32; 121]) -> State
     ensures { result ≡ unpacked words.now }
@@ -11,14 +15,24 @@ fn unpacked(words: &[u32; 121]) -> State
     let (contexts, _) = words[1..].as_chunks();
     State {
         active: (words[0] % 256) as u8,
-        contexts: contexts.as_array().unwrap().map(context),
+        contexts: from_fn(
+            |i: usize| -> Context
+                requires { i < length contexts.now }
+                ensures { result ≡ context_from (get_or contexts.entry.now i []) 0 }
+            { context(contexts[i]) },
+        ),
     }
 }
 
 pub fn packed(s: State) -> [u32; 121]
     ensures { result ≡ packed s }
 {
-    let contexts = s.contexts.map(context_words);
+    let contexts: [[u32; 15]; MOST] = from_fn(
+        |i: usize| -> [u32; 15]
+            requires { i < 8 }
+            ensures { result ≡ context_words (get_or s.contexts i missing) }
+        { context_words(s.contexts[i]) },
+    );
     let mut words = [0; 121];
     words[0] = u32::from(s.active);
     words[1..].copy_from_slice(contexts.as_flattened());
