@@ -2,7 +2,8 @@
 --     Form                  such a record, with its value, the test of it and what follows
 --     form_refused, form_decided   the record is not there, or its value is tested
 -- Assumes nothing.
-use Rattle.std.specs.Prelude.{ℕ, ◌+◌, ◌≡◌, Bool, List, take, drop, Ok, Err}
+use Rattle.std.specs.Prelude.{ℕ, ◌+◌, ◌≡◌, Bool, List, drop, Ok, Err}
+use denote.Ref.{Bor}
 use Rattle.model.specs.Basics.{number}
 use Rattle.model.specs.Map.{most}
 use Rattle.model.specs.Refusals.{check, sized, within}
@@ -57,6 +58,6 @@ module _ {A : Type 0} (f : Form A) (s : List ℕ) where
   form_refused o = o.reads (go f)
 
   pub form_decided :
-      Opens s f.at f.kind f.size (Ok tt) → {v : A} → v ≡ f.value (take f.size (drop (f.at + 1) s)) → {w : Verdict}
+      {b : Bor (List ℕ)} → Opens s f.at f.kind f.size (Ok b) → {v : A} → v ≡ f.value b.now → {w : Verdict}
       → w ≡ check (f.good v) f.refusal → judged f.at w (f.next v (drop (f.at + 1 + f.size) s)) ≡ reading f s
   form_decided o e t = rw (t, e) (o.reads (go f))

@@ -1,9 +1,9 @@
 -- What the writer leaves in a lent buffer and what the reader's answers say, with the laws that their functions rest on:
---     Laid           bytes laid into a buffer at an offset; LaidLaws: nothing, one byte, one thing and then another
---     RunLaws        a run of records, split; WriterLaws: the writer's three cases
+--     Laid           bytes laid into a buffer at an offset; LaidLaws: nothing, a copy, one thing and then another
+--     RunLaws        a run of records, split; WriterLaws: the writer's cases
 --     Resumed        what is left to read after each answer
 --     DropLaws       the bytes from an offset on; HeadLaws, DomainLaws, ChannelReadLaws: each answer on a record;
---                    ReaderLaws: how reading goes on and ends
+--                    ReaderLaws: how reading ends
 pub mod Laid
 pub mod LaidLaws
 pub mod RunLaws

@@ -1,6 +1,7 @@
 -- What is left to read after each of the reader's answers: an answer's contract is that this is what the definition reads.
 -- Assumes nothing.
-use Rattle.std.specs.Prelude.{ℕ, suc, ◌+◌, ◌*◌, ◌≤◌, ◌<◌, ◌≡◌, List, [], true, length, get_or, set, take, drop, Option, Some, None, Result, Ok, Err}
+use Rattle.std.specs.Prelude.{ℕ, suc, ◌+◌, ◌*◌, ◌≤◌, ◌<◌, ◌≡◌, List, [], true, length, get_or, set, drop, Option, Some, None, Result, Ok, Err}
+use denote.Ref.{Bor}
 use Rattle.model.specs.Map.{most, Grid, no_grid}
 use Rattle.model.specs.Sheet.{Found, finish, one_record, kernel_read, region_of, beginning_map, with_domain, domains_read, channels_read}
 use Rattle.model.specs.declared.map.Region.{Region}
@@ -8,22 +9,15 @@ use Rattle.model.specs.declared.map.Domain.{Domain}
 use Rattle.model.specs.declared.map.Map.{Map}
 use Rattle.model.specs.declared.refusal.Refusal.{Refusal}
 use Rattle.model.specs.declared.refusal.RefusedAt.{RefusedAt}
-use Rattle.model.specs.Answers.{Verdict}
 use Rattle.sheet.specs.declared.cursor.Cursor.{Cursor}
 
 -- one record of one kind: with its body there, what follows goes on with the body and the rest
-abbrev pub after_record : List ℕ → ℕ → ℕ → (List ℕ → List ℕ → Found) → Verdict → Found
-after_record s at size go (Ok tt) = go (take size (drop (at + 1) s)) (drop (at + 1 + size) s)
+abbrev pub after_record : List ℕ → ℕ → ℕ → (List ℕ → List ℕ → Found) → Result (Bor (List ℕ)) Refusal → Found
+after_record s at size go (Ok b) = go b.now (drop (at + 1 + size) s)
 after_record s at size go (Err r) = Found.refused r at
 
--- where the record is there, it ends here; where it is refused, nothing is said
-abbrev pub record_end : ℕ → ℕ → Verdict → ℕ
-record_end at size (Ok tt) = at + 1 + size
-record_end at size (Err r) = 0
-
-pub record Opens (s : List ℕ) (at kind size : ℕ) (r : Verdict) : Type 0 where
+pub record Opens (s : List ℕ) (at kind size : ℕ) (r : Result (Bor (List ℕ)) Refusal) : Type 0 where
   pub reads : (go : List ℕ → List ℕ → Found) → after_record s at size go r ≡ one_record at kind size (drop at s) go
-  pub fits : record_end at size r ≤ length s
 
 -- the first two records
 abbrev pub kernel_left : List ℕ → ℕ → Found

@@ -4,26 +4,24 @@ ghost use Rattle.model.specs.Sheet.{sheet_read};
 ghost use Rattle.sheet.specs.Resumed.{Opens, kernel_left, after_length, after_kernel};
 
 use crate::number::region_of;
-use model::call::Verdict;
 use model::map::Region;
 use model::refusal::Refusal;
 use rights::region::{sized, within};
 use rights::verdict::check;
 
-// "kind byte present (1), kind allowed (2), body present (1)"
-fn one_record(s: &[u8], at: usize, kind: u8, size: usize) -> Verdict
-    ensures { Opens s.now at kind size result }
+// "kind byte present (1), kind allowed (2), body present (1)": the body.
+fn one_record<const SIZE: usize>(s: &[u8], at: usize, kind: u8) -> Result<&[u8; SIZE], Refusal>
+    ensures { Opens s.now at kind SIZE result }
 {
-    check(at < s.len(), Refusal::Short)?;
-    check(s[at] == kind, Refusal::Kind)?;
-    check(size <= s.len() - at - 1, Refusal::Short)
+    let k = *s.get(at).ok_or(Refusal::Short)?;
+    check(k == kind, Refusal::Kind)?;
+    s[at + 1..].first_chunk().ok_or(Refusal::Short)
 }
 
 pub fn length_record(s: &[u8]) -> Result<u32, Refusal>
     ensures { after_length s.now result ≡ sheet_read s.now }
 {
-    one_record(s, 0, 1, 4)?;
-    let n = u32::from_le_bytes(*s[1..].first_chunk().unwrap());
+    let n = u32::from_le_bytes(*one_record(s, 0, 1)?);
     check(sized(n), Refusal::Length)?;
     Ok(n)
 }
@@ -31,8 +29,7 @@ pub fn length_record(s: &[u8]) -> Result<u32, Refusal>
 pub fn kernel_record(s: &[u8], n: u32) -> Result<Region, Refusal>
     ensures { after_kernel s.now n result ≡ kernel_left s.now n }
 {
-    one_record(s, 5, 2, 8)?;
-    let kernel = region_of(s[6..].first_chunk().unwrap());
+    let kernel = region_of(one_record(s, 5, 2)?);
     check(within(n, kernel), Refusal::Bounds)?;
     Ok(kernel)
 }

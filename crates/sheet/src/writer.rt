@@ -9,7 +9,7 @@ use crate::record::{domain_record, head};
 use model::MOST;
 use model::map::Map;
 
-// How many cells are marked.
+// How many cells are marked, cell by cell as the definition counts them.
 pub fn channel_count(g: [[bool; MOST]; MOST]) -> usize
     ensures { (result ≡ channel_count g) × (result ≤ most * most) }
 {

@@ -11,9 +11,11 @@ pub returns-in_err-check : goal.returns-in_err-check
 unfolding sheet_read
 returns-in_err-check c =
     let e : c.from_residual-in_err-check.result ≡ Err c.in_err-check.field-0.0 = search rules in
-    rw e (rw c.in_err-check.was at (form_decided length_form c.args.s.now c.in_ok-one_record.ensures {v = c.from_le_bytes-n.result} (search rules) {w = c.check.result} (search rules)))
+    let d = form_decided length_form c.args.s.now c.in_ok-one_record.ensures {v = c.from_le_bytes-n.result} (search rules) {w = c.check.result} (search rules) in
+    rw e (rw c.in_err-check.was at d)
 
 pub returns : goal.returns
 unfolding sheet_read
 returns c =
-    rw c.in_ok-check.was at (form_decided length_form c.args.s.now c.in_ok-one_record.ensures {v = c.from_le_bytes-n.result} (search rules) {w = c.check.result} (search rules))
+    let d = form_decided length_form c.args.s.now c.in_ok-one_record.ensures {v = c.from_le_bytes-n.result} (search rules) {w = c.check.result} (search rules) in
+    rw c.in_ok-check.was at d
