@@ -21,6 +21,7 @@ pub fn channel_count(g: [[bool; MOST]; MOST]) -> usize
 }
 
 // Lays the bytes at an offset, and returns the offset past them.
+// The offset stands beside the buffer: of a struct that held the lent buffer, each contract would say too that it holds the same one still.
 fn lay(buffer: &mut [u8], at: usize, bytes: &[u8]) -> usize
     requires { at + length bytes.now ≤ length buffer.old }
     ensures { Laid at bytes.now buffer.old result buffer.new }
