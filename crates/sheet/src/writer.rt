@@ -9,7 +9,8 @@ use crate::record::{domain_record, head};
 use model::MOST;
 use model::map::Map;
 
-// How many cells are marked, cell by cell as the definition counts them.
+// How many cells are marked. No chain over the rows: it proves only what `count_by` finds in the list of all cells, and a second function
+// and a law of the grid's shape would have to lead from there to the definition's cells.
 pub fn channel_count(g: [[bool; MOST]; MOST]) -> usize
     ensures { (result ≡ channel_count g) × (result ≤ most * most) }
 {
