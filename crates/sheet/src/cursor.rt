@@ -1,4 +1,4 @@
-// Where the reader stands.
+// Where the reader stands. The offset stands beside the bytes, in place of a slice of those that are left: a refusal reports it.
 ghost use Rattle.std.specs.Prelude.{◌≤◌};
 ghost use Rattle.model.specs.Map.{most};
 

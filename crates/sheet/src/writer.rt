@@ -9,7 +9,8 @@ use crate::record::{domain_record, head};
 use model::MOST;
 use model::map::Map;
 
-// How many cells are marked, cell by cell as the definition counts them.
+// How many cells are marked. No chain over the rows: it proves only what `count_by` finds in the list of all cells, and a second function
+// and a law of the grid's shape would have to lead from there to the definition's cells.
 pub fn channel_count(g: [[bool; MOST]; MOST]) -> usize
     ensures { (result ≡ channel_count g) × (result ≤ most * most) }
 {
@@ -21,6 +22,7 @@ pub fn channel_count(g: [[bool; MOST]; MOST]) -> usize
 }
 
 // Lays the bytes at an offset, and returns the offset past them.
+// The offset stands beside the buffer: of a struct that held the lent buffer, each contract would say too that it holds the same one still.
 fn lay(buffer: &mut [u8], at: usize, bytes: &[u8]) -> usize
     requires { at + length bytes.now ≤ length buffer.old }
     ensures { Laid at bytes.now buffer.old result buffer.new }

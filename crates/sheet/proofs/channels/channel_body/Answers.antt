@@ -24,12 +24,6 @@ returns-in_err-check c =
     let i : c.is_channel.result ≡ false = search rules in
     rw e (no_channel _ _ _ _ l c.requires.1 (and_stop _ (rw (from, to) at c.is_channel.ensures) i))
 
-pub overflow_sub-row : goal.overflow_sub-row
-overflow_sub-row c = search rules
-
-pub overflow_sub-column : goal.overflow_sub-column
-overflow_sub-column c = search rules
-
 pub returns-in_err-check-2 : goal.returns-in_err-check-2
 returns-in_err-check-2 c =
     let a = c.args in
