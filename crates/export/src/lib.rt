@@ -1,6 +1,6 @@
 // Arcovinda for C: include/arcovinda.h declares these functions and says what each is for; crate export_c exports them. A block that C lends is
 // words; each function reads what the words are, makes the call, and sets what the call's result comes to. No function asks its caller to have
-// looked first.
+// looked first. Where functions differ in an access or an event alone, their names are C's.
 #![tactic(auto)]
 
 mod answer;

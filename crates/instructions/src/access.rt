@@ -18,6 +18,7 @@ pub struct Address {
 }
 
 impl Address {
+    #[inline(always)]
     pub fn new(base: u32, offset: u8) -> Address
         ensures { result.at ≡ base + offset }
     {
@@ -28,6 +29,7 @@ impl Address {
 }
 
 // The region that accesses of a sort mostly lie in.
+#[inline(always)]
 fn home(own: Domain, k: Access) -> Region
     ensures { result ≡ home own k }
 {
@@ -37,6 +39,7 @@ fn home(own: Domain, k: Access) -> Region
     }
 }
 
+#[inline(always)]
 fn covers(r: Region, a: u64, past: u64) -> bool
     ensures { result ≡ covers r a past }
 {
@@ -44,6 +47,7 @@ fn covers(r: Region, a: u64, past: u64) -> bool
 }
 
 // The lowest address from a up to `past` that is denied. An access inside its home needs no search.
+#[inline(always)]
 fn denied(own: Domain, k: Access, a: u64, past: u64) -> Option<u64>
     ensures { lowest_of result ≡ lowest (may own k) a (past - a) }
 {
@@ -54,6 +58,7 @@ fn denied(own: Domain, k: Access, a: u64, past: u64) -> Option<u64>
 }
 
 // The N bytes from a on.
+#[inline(always)]
 pub fn load<const N: usize>(own: Domain, a: Address, memory: &[u8]) -> Result<[u8; N], Reason>
     requires { N ≤ 4 }
     ensures { result ≡ load own a.at N memory.now }
@@ -65,6 +70,7 @@ pub fn load<const N: usize>(own: Domain, a: Address, memory: &[u8]) -> Result<[u
 }
 
 // The bytes from a on become these, or none does.
+#[inline(always)]
 pub fn store(own: Domain, a: Address, bytes: &[u8], memory: &mut [u8]) -> Result<(), Reason>
     requires { length bytes.now ≤ 4 }
     ensures { (result, memory.new) ≡ store own a.at bytes.now memory.old }

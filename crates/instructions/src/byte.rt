@@ -6,6 +6,7 @@ ghost use Rattle.model.specs.Instructions.{peek};
 
 use std::array;
 
+#[inline(always)]
 pub fn byte(memory: &[u8], a: usize) -> u8
     ensures { result ≡ slice_index memory.now a }
 {
@@ -13,6 +14,7 @@ pub fn byte(memory: &[u8], a: usize) -> u8
 }
 
 // The N bytes from a on.
+#[inline(always)]
 pub fn peek<const N: usize>(memory: &[u8], a: usize) -> [u8; N]
     ensures { result ≡ peek memory.now a N }
 {
@@ -21,6 +23,7 @@ pub fn peek<const N: usize>(memory: &[u8], a: usize) -> [u8; N]
 }
 
 // "4 bytes little-endian"
+#[inline(always)]
 pub fn number(memory: &[u8], a: usize) -> u32
     ensures { result ≡ number (peek memory.now a 4) 0 }
 {
@@ -28,6 +31,7 @@ pub fn number(memory: &[u8], a: usize) -> u32
 }
 
 // The bytes from a on become these.
+#[inline(always)]
 pub fn put(memory: &mut [u8], a: usize, bytes: &[u8])
     ensures { memory.new ≡ sets memory.old a bytes.now }
 {

@@ -1,4 +1,5 @@
-// "One kind byte, then the body": the body's length and the effect, and the registers that it names.
+// "One kind byte, then the body": the body's length and the effect, and the registers that it names. The kind is a byte, since document 01 asks that
+// "decoding matches the kind byte over twenty cases and ranges, giving body length and effect".
 #![tactic(auto, unfolding(model::specs::Table::row_of, model::specs::Table::table))]
 
 ghost use Rattle.std.specs.Prelude.{◌≡◌, [], ◌∷◌, nat_le, None, Some, if◌then◌else◌};
@@ -7,6 +8,7 @@ ghost use Rattle.instructions.specs.Suspect.{above};
 
 use model::instruction::{Decoded, Effect};
 
+#[inline(always)]
 fn length_of(kind: u8) -> u32
     ensures { result ≡ size (row_of kind).form }
 {
@@ -22,6 +24,7 @@ fn length_of(kind: u8) -> u32
     }
 }
 
+#[inline(always)]
 fn effect_of(kind: u8) -> Option<Effect>
     ensures { result ≡ (if nat_le kind 19 then Some (row_of kind).effect else None) }
 {
@@ -51,6 +54,7 @@ fn effect_of(kind: u8) -> Option<Effect>
 }
 
 // What a kind of the table comes to; a kind above 19 comes to nothing.
+#[inline(always)]
 pub fn decode(kind: u8) -> Option<Decoded>
     ensures { result ≡ (if nat_le kind 19 then Some (decoded kind) else None) }
 {
@@ -60,6 +64,7 @@ pub fn decode(kind: u8) -> Option<Decoded>
 }
 
 // A register byte that names no register.
+#[inline(always)]
 fn above(r: u8) -> Option<u8>
     ensures { result ≡ above (r ∷ []) }
 {
@@ -67,6 +72,7 @@ fn above(r: u8) -> Option<u8>
 }
 
 // "registers above 7 in body order": the first, if there is one.
+#[inline(always)]
 pub fn no_register(kind: u8, body: [u8; 5]) -> Option<u8>
     ensures { result ≡ above (registers_of (row_of kind).form body) }
 {

@@ -4,12 +4,14 @@ ghost use Rattle.instructions.specs.declared.went.Went.{Went};
 
 use crate::went::Went;
 
+#[inline(always)]
 pub fn register(registers: &[u32; 8], r: u8) -> u32
     ensures { result ≡ slice_index registers.now r }
 {
     registers.get(usize::from(r)).copied().unwrap_or(0)
 }
 
+#[inline(always)]
 pub fn set_register(registers: &mut [u32; 8], r: u8, v: u32)
     ensures { registers.new ≡ slice_set registers.old r v }
 {
@@ -21,6 +23,7 @@ pub fn set_register(registers: &mut [u32; 8], r: u8, v: u32)
 }
 
 // r becomes v, and the counter goes on.
+#[inline(always)]
 pub fn becomes(registers: &mut [u32; 8], r: u8, v: u32, next: u32) -> Went
     ensures { (result ≡ Went.Moved next) × (registers.new ≡ slice_set registers.old r v) }
 {

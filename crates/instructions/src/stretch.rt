@@ -15,6 +15,7 @@ use rights::region::inside;
 
 impl Held {
     // "kind above 19, fetch of the body, registers above 7 in body order, then access or channel"
+    #[inline(always)]
     fn known(
         &self,
         kind: u8,
@@ -43,6 +44,7 @@ impl Held {
     // "fetch of the kind byte", then the rest for each kind by itself: its tests and its effect are compiled for that kind alone, after
     // one jump. The accesses share theirs with what is no kind.
     #[tactic(auto, unfolding(model::specs::Instructions::plan, model::specs::Instructions::carry, model::specs::Map::lowest, model::specs::Map::may))]
+    #[inline(always)]
     fn one(&self, counter: u32, registers: &mut [u32; 8], memory: &mut [u8]) -> Result<Went, Reason>
         ensures { Tells (held self.now.own self.now.count.n self.now.row) plan
             registers.old counter memory.old (went result) registers.new memory.new }

@@ -13,6 +13,7 @@ use model::state::Reason;
 
 impl Held {
     // "faults as channel if d is not 1 to N or not granted"
+    #[inline(always)]
     fn send(&self, t: u8, word: u32, next: u32) -> Result<Went, Reason>
         ensures { result ≡ (if linked self.now.count.n self.now.row t then Ok (Went.Sends t word next) else Err (Reason.Channel t)) }
     {
@@ -25,6 +26,7 @@ impl Held {
 
     // "Every register that an instruction reads is read before it sets any."
     #[tactic(auto, unfolding(model::specs::Instructions::work, model::specs::Instructions::carry))]
+    #[inline(always)]
     pub fn work(
         &self,
         effect: Effect,

@@ -6,6 +6,7 @@ ghost use Rattle.model.specs.Refusals.{is_channel, channels_good};
 use model::MOST;
 
 // "Numbers count from 1; domain 0 means the device or nobody."
+#[inline(always)]
 pub fn is_domain(count: u8, d: u8) -> bool
     ensures { result ≡ is_domain count d }
 {

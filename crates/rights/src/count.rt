@@ -12,6 +12,7 @@ pub struct Count {
 
 impl Count {
     // Whether d is one of the domains.
+    #[inline(always)]
     pub fn has(self, d: u8) -> bool
         ensures { result ≡ is_domain self.n d }
     {

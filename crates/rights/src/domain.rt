@@ -13,6 +13,7 @@ use model::refusal::Refusal;
 
 // "may read an address in its code or data, write one in its data, fetch one from its code"
 #[tactic(auto, unfolding(model::specs::Map::may))]
+#[inline(always)]
 pub fn may(d: Domain, k: Access, a: u64) -> bool
     ensures { result ≡ may d k a }
 {

@@ -6,6 +6,7 @@ ghost use Rattle.model.specs.Refusals.{sized, within};
 use model::map::Region;
 
 // "half open, begin up to but without end": the address is a whole number, never reduced.
+#[inline(always)]
 pub fn inside(r: Region, a: u64) -> bool
     ensures { result ≡ inside r a }
 {

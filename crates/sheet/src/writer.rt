@@ -1,4 +1,5 @@
-// The writer's sheet: its records are laid into a lent buffer, each past the one before.
+// The writer's sheet: its records are laid into a lent buffer, each past the one before. The offset stands beside the buffer, since the contract of
+// `sheet::write` is on the whole of it: what is left of it, lent on, would say nothing of the front.
 ghost use Rattle.std.specs.Prelude.{◌≡◌, ◌+◌, ◌*◌, ◌≤◌, length};
 ghost use Rattle.model.specs.Map.{most};
 ghost use Rattle.model.specs.Sheet.{domain_records, channel_records, sheet_bytes};
