@@ -1,4 +1,4 @@
-// A 64-bit number is two words, the low one first.
+// A 64-bit number is two words, the low one first: std converts bytes so, and has no call for words.
 ghost use Rattle.std.specs.Prelude.{◌≡◌};
 ghost use Rattle.export.specs.Words.{low, high, joined};
 

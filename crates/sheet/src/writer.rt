@@ -1,5 +1,6 @@
 // The writer's sheet: its records are laid into a lent buffer, each past the one before. The offset stands beside the buffer, since the contract of
-// `sheet::write` is on the whole of it: what is left of it, lent on, would say nothing of the front.
+// `sheet::write` is on the whole of it: what is left of it, lent on, would say nothing of the front. That a count is at most eight is a fact about the map
+// that is given: a Count beside it would have to be this map's.
 ghost use Rattle.std.specs.Prelude.{◌≡◌, ◌+◌, ◌*◌, ◌≤◌, length};
 ghost use Rattle.model.specs.Map.{most};
 ghost use Rattle.model.specs.Sheet.{domain_records, channel_records, sheet_bytes};
