@@ -1,12 +1,12 @@
 -- Laws of Sheet, in the reader's terms: each answer on a record of kind 4 or 5 is what the definition reads there.
---     missing, other_kind     no record, and one of another kind
---     ended                 a record of kind 5;   nothing_after, trailing: with nothing after it, and with more
---     body_cut            a record of kind 4 whose body is not there
+--     missing, other_kind   no record, and one of another kind
+--     ended, trailing       a record of kind 5, and more after it
+--     body_cut              a record of kind 4 whose body is not there
 --     channel, no_channel   one whose body is there: a channel above the one before, and none
 -- Assumes nothing.
 use Rattle.std.specs.Prelude.{ℕ, ◌+◌, ◌-◌, ◌≤◌, ◌<◌, ◌≡◌, Bool, true, false, eqb, length, get_or, drop, if◌then◌else◌, Some, None, Ok, Err}
 use Rattle.std.proofs.Math.Path.{refl, ap}
-use Rattle.std.proofs.Common.{◌∙◌, arith, length-drop, le-leb, ne_eqb}
+use Rattle.std.proofs.Common.{◌∙◌, arith, drop_of_length-le, length-drop, le-leb, ne_eqb}
 use mathlib.Core.List.{List, [], ◌∷◌}
 use Rattle.model.proofs.BasicsLaws.{and_both}
 use Rattle.model.specs.Map.{Grid}
@@ -15,8 +15,16 @@ use Rattle.model.proofs.GridLaws.{channel_ends}
 use Rattle.model.specs.Sheet.{Found, finish, judged, place, rising, mark, channels_read}
 use Rattle.model.specs.declared.map.Map.{Map}
 use Rattle.model.specs.declared.refusal.Refusal.{Refusal}
-use Rattle.sheet.specs.DropLaws.{drop_end, drop_here, drop_three}
+use Rattle.std.proofs.lemmas.List.{drop_more}
 use Rattle.sheet.specs.Resumed.{ReadsChannel}
+
+drop_three :
+    (s : List ℕ) (at : ℕ) → at + 3 ≤ length s
+    → drop at s ≡ get_or s at 0 ∷ get_or s (at + 1) 0 ∷ get_or s (at + 2) 0 ∷ drop (at + 3) s
+drop_three s at h =
+    let two : at + 1 + 1 ≡ at + 2 = omega arith in
+    let three : at + 2 + 1 ≡ at + 3 = omega arith in
+    rw (drop_more s at 0 (omega arith), drop_more s (at + 1) 0 (omega arith), two, drop_more s (at + 2) 0 (omega arith), three)
 
 -- ---- the definition, by the kind
 
@@ -48,21 +56,21 @@ module _ (s : List ℕ) (at : ℕ) where
   module _ (count p : ℕ) where
     pub missing : length s ≤ at → ReadsChannel s at count p (Err Refusal.Short)
     unfolding channels_read
-    missing h = record { reads = λ m g e. rw (drop_end s at h); fits = tt }
+    missing h = record { reads = λ m g e. rw (drop_of_length-le s h); fits = tt }
 
     module _ (h : at < length s) where
       pub other_kind :
           (get_or s at 0 ≡ 4 → ⊥) → (get_or s at 0 ≡ 5 → ⊥) → ReadsChannel s at count p (Err Refusal.Kind)
       other_kind a b =
           record {
-            reads = λ m g e. rw (drop_here s at h, not_four at m p g _ (drop (at + 1) s) a, ne_eqb _ 5 b);
+            reads = λ m g e. rw (drop_more s at 0 h, not_four at m p g _ (drop (at + 1) s) a, ne_eqb _ 5 b);
             fits = tt;
           }
 
       pub ended : get_or s at 0 ≡ 5 → ReadsChannel s at count p (Ok None)
       ended k =
           record {
-            reads = λ m g e. rw (drop_here s at h, k, not_four at m p g 5 (drop (at + 1) s) (λ q. omega arith));
+            reads = λ m g e. rw (drop_more s at 0 h, k, not_four at m p g 5 (drop (at + 1) s) (λ q. omega arith));
             fits = h;
           }
 
@@ -70,7 +78,7 @@ module _ (s : List ℕ) (at : ℕ) where
           get_or s at 0 ≡ 4 → length s < at + 3 → ReadsChannel s at count p (Err Refusal.Short)
       body_cut k l =
           let left : length (drop (at + 1) s) < 2 = omega (arith, length-drop (at + 1) s) in
-          record { reads = λ m g e. rw (drop_here s at h, k, four_short at m p g (drop (at + 1) s) left); fits = tt }
+          record { reads = λ m g e. rw (drop_more s at 0 h, k, four_short at m p g (drop (at + 1) s) left); fits = tt }
 
     module _ (h : at + 3 ≤ length s) (k : get_or s at 0 ≡ 4) where
       four_judged :
@@ -89,11 +97,8 @@ module _ (s : List ℕ) (at : ℕ) where
           let ends = channel_ends count f t i in
           record { reads = four_judged true (and_both i (le-leb p (place f t) l)); fits = (h, omega arith, omega arith) }
 
--- ---- what stands after a record of kind 5
+-- ---- more after a record of kind 5
 
 module _ (s : List ℕ) (at : ℕ) (m : Map) (g : Grid) where
-  pub nothing_after : length s ≤ at + 1 → Found.whole m g ≡ finish at m g (drop (at + 1) s)
-  nothing_after l = rw (drop_end s (at + 1) l)
-
   pub trailing : at + 1 < length s → Found.refused Refusal.Trailing (at + 1) ≡ finish at m g (drop (at + 1) s)
-  trailing l = rw (drop_here s (at + 1) l)
+  trailing l = rw (drop_more s (at + 1) 0 l)

@@ -2,15 +2,12 @@
 --     Laid           bytes laid into a buffer at an offset; LaidLaws: nothing, a copy, one thing and then another
 --     RunLaws        a run of records, split; WriterLaws: the writer's cases
 --     Resumed        what is left to read after each answer
---     DropLaws       the bytes from an offset on; HeadLaws, DomainLaws, ChannelReadLaws: each answer on a record;
---                    ReaderLaws: how reading ends
+--     HeadLaws, DomainLaws, ChannelReadLaws   each answer on a record
 pub mod Laid
 pub mod LaidLaws
 pub mod RunLaws
 pub mod WriterLaws
 pub mod Resumed
-pub mod DropLaws
 pub mod HeadLaws
 pub mod DomainLaws
 pub mod ChannelReadLaws
-pub mod ReaderLaws

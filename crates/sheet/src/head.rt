@@ -18,6 +18,7 @@ fn one_record<const SIZE: usize>(s: &[u8], at: usize, kind: u8) -> Result<&[u8; 
     s[at + 1..].first_chunk().ok_or(Refusal::Short)
 }
 
+// This and the next share `one_record`: what is left of each is its value and the test of it.
 pub fn length_record(s: &[u8]) -> Result<u32, Refusal>
     ensures { after_length s.now result ≡ sheet_read s.now }
 {

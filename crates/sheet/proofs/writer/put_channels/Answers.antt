@@ -1,4 +1,4 @@
-use Rattle.std.proofs.Common.{arith, ◌≡◌, ◌*◌, zero-add}
+use Rattle.std.proofs.Common.{arith, ◌*◌, zero-add}
 use Rattle.model.specs.Map.{most}
 use Rattle.model.specs.Sheet.{channel_records}
 use Rattle.sheet.specs.LaidLaws.{laid_none, laid_then}
@@ -21,8 +21,3 @@ loop-p-preserved c =
       | then-g-row w ↦ rw (w.buffer-is, w.next-is, channels_split, zero-add, w.if-g-row.true) (laid_then c.loop-p.invariant w.lay-next.ensures)
       | else-g-row w ↦ rw (w.buffer-is, w.next-is, channels_split, zero-add, w.if-g-row.false) (laid_then c.loop-p.invariant (laid_none _ _))
     ]
-
-pub returns : goal.returns
-returns c =
-    let all : c.loop-p.p ≡ most * most = omega arith in
-    rw all at c.loop-p.invariant

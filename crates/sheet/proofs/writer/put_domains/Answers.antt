@@ -1,4 +1,4 @@
-use Rattle.std.proofs.Common.{rules, arith, ◌≡◌, ◌<◌, length, zero-add, ap, ◌∙◌}
+use Rattle.std.proofs.Common.{rules, arith, ◌<◌, length, zero-add, ap, ◌∙◌}
 use Rattle.std.proofs.lemmas.List.{get_or-take}
 use Rattle.model.specs.Map.{absent}
 use Rattle.model.specs.Sheet.{domain_record, domain_records}
@@ -22,8 +22,3 @@ loop-d-preserved c =
     let i : c.loop-d.d-index < c.from.result = search rules in
     let d = c.domain_record.ensures ∙ ap domain_record (get_or-take c.from.result c.args.m.domains c.loop-d.d-index absent i) in
     rw (domains_split, zero-add, ← d) (laid_then c.loop-d.invariant c.lay-next.ensures)
-
-pub returns : goal.returns
-returns c =
-    let all : c.loop-d.d-index ≡ c.args.m.count = search rules in
-    rw all at c.loop-d.invariant
