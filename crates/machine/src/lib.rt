@@ -15,7 +15,7 @@ ghost use Rattle.model.specs.declared.event.Event.{Event};
 
 use crate::happen::happen;
 use crate::trace::play_on;
-use crate::verdict::{lent_verdict, node_verdict};
+use crate::verdict::{lent_verdict, tested};
 use model::MOST;
 use model::call::{Batched, Ending, Played, Started, Stepped, Stop, Verdict};
 use model::event::{Event, EventRead};
@@ -23,7 +23,6 @@ use model::map::Map;
 use model::state::State;
 use rights::acceptable;
 use states::event::Happened;
-use stepping::node::Node;
 
 // The node at its start, or why not: then no domain is active, and every context is zero and halted.
 #[tactic(auto, unfolding(model::specs::Calls::starter))]
@@ -43,21 +42,18 @@ pub fn start(m: Map, g: [[bool; MOST]; MOST]) -> Started
 pub fn event(m: Map, g: [[bool; MOST]; MOST], s: State, memory: &mut [u8], e: Event) -> Stepped
     ensures { left result memory.new ≡ stepper m g s memory.old e }
 {
-    if let Err(r) = node_verdict(m, g, s, memory) {
-        return Stepped {
+    match tested(m, g, s, memory) {
+        Ok(node) => {
+            let Happened { answer, state } = happen(node, memory, e);
+            Stepped {
+                reply: Ok(answer),
+                state,
+            }
+        }
+        Err(r) => Stepped {
             reply: Err(r),
             state: s,
-        };
-    }
-    let node = Node {
-        map: m,
-        grid: g,
-        state: s,
-    };
-    let Happened { answer, state } = happen(node, memory, e);
-    Stepped {
-        reply: Ok(answer),
-        state,
+        },
     }
 }
 
@@ -101,19 +97,14 @@ pub fn read_event(bytes: &[u8]) -> EventRead
 pub fn play(m: Map, g: [[bool; MOST]; MOST], s: State, memory: &mut [u8], trace: &[u8]) -> Played
     ensures { left result memory.new ≡ player m g s memory.old trace.now }
 {
-    if let Err(r) = node_verdict(m, g, s, memory) {
-        return Played {
+    match tested(m, g, s, memory) {
+        Ok(node) => play_on(node, memory, trace),
+        Err(r) => Played {
             close: Err(Stop::Refused(r)),
             events: 0,
             state: s,
-        };
+        },
     }
-    let node = Node {
-        map: m,
-        grid: g,
-        state: s,
-    };
-    play_on(node, memory, trace)
 }
 
 // As many steps as the limit, or fewer if the node becomes idle; how many were done is returned.
@@ -121,29 +112,26 @@ pub fn play(m: Map, g: [[bool; MOST]; MOST], s: State, memory: &mut [u8], trace:
 pub fn batch(m: Map, g: [[bool; MOST]; MOST], s: State, memory: &mut [u8], limit: u64) -> Batched
     ensures { left result memory.new ≡ batcher m g s memory.old limit }
 {
-    if let Err(r) = node_verdict(m, g, s, memory) {
-        return Batched {
+    match tested(m, g, s, memory) {
+        Ok(node) => {
+            let done = node.run(memory, limit);
+            // ""spent" if that equals the limit, else "idle"": nothing is left of the limit
+            let ending = if done.left == 0 {
+                Ending::Spent
+            } else {
+                Ending::Idle
+            };
+            Batched {
+                ending: Ok(ending),
+                steps: limit - done.left,
+                state: done.state,
+            }
+        }
+        Err(r) => Batched {
             ending: Err(r),
             steps: 0,
             state: s,
-        };
-    }
-    let node = Node {
-        map: m,
-        grid: g,
-        state: s,
-    };
-    let done = node.run(memory, limit);
-    // ""spent" if that equals the limit, else "idle"": nothing is left of the limit
-    let ending = if done.left == 0 {
-        Ending::Spent
-    } else {
-        Ending::Idle
-    };
-    Batched {
-        ending: Ok(ending),
-        steps: limit - done.left,
-        state: done.state,
+        },
     }
 }
 

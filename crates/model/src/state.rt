@@ -39,6 +39,7 @@ pub struct Context {
 
 #[derive(Clone, Copy, PartialEq, Eq, Debug, Default)]
 pub struct State {
+    // "active is 0 to N": no Option, since a caller may pass any number, and one above N is refused with 13.
     pub active: u8,
     pub contexts: [Context; MOST],
 }

@@ -20,7 +20,7 @@ pub fn is_channel(count: u8, f: u8, t: u8) -> bool
     is_domain(count, f) & is_domain(count, t) & (f != t)
 }
 
-// Each mark of the grid is a channel, row by row.
+// Each mark of the grid is a channel, cell by cell as the definition counts them: two loops, over rows and marks, would be no plainer.
 pub fn channels_good(count: u8, g: [[bool; MOST]; MOST]) -> bool
     ensures { result ≡ channels_good count g 0 (most * most) }
 {

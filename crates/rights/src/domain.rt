@@ -88,7 +88,8 @@ pub fn domain_verdict(m: Map, i: usize, d: Domain) -> Verdict
     )
 }
 
-// 4, 5 and 6 for each domain in turn. The fact in the contract is about the map that is given: a Count beside it would have to be this map's.
+// 4, 5 and 6 for each domain in turn. The fact in the contract is about the map that is given: a Count beside it would be no
+// plainer, since it would have to be this map's.
 pub fn domains_verdict(m: Map) -> Verdict
     requires { m.count ≤ most }
     ensures { result ≡ domains_verdict m 0 m.count }

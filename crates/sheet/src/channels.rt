@@ -1,5 +1,5 @@
-// The records of kinds 4 and 5: "any number of 4 in rising order of (from, to), one 5, nothing after". The offset stands beside the bytes, and not what is
-// left of them alone: a refusal tells it.
+// The records of kinds 4 and 5: "any number of 4 in rising order of (from, to), one 5, nothing after". The offset stands beside
+// the bytes: a refusal tells it.
 ghost use Rattle.std.specs.Prelude.{◌≡◌, ◌<◌, length, get_or, drop};
 ghost use Rattle.model.specs.Sheet.{channels_read};
 ghost use Rattle.sheet.specs.Resumed.{ReadsChannel, closed};

@@ -1,5 +1,5 @@
 // The sheet's reader and writer: bytes to a map and its grid, and back. Map and grid stay two parameters: document 01 asks for "an array of
-// eight arrays passed by value beside the map struct".
+// eight arrays passed by value beside the map struct". A record's kind stays a byte: it is met once in the reader and once in the writer.
 #![tactic(auto)]
 
 mod channels;

@@ -1,6 +1,5 @@
-// The writer's sheet: its records are laid into a lent buffer, each past the one before. The offset stands beside the buffer, since the contract of
-// `sheet::write` is on the whole of it: what is left of it, lent on, would say nothing of the front. That a count is at most eight is a fact about the map
-// that is given: a Count beside it would have to be this map's.
+// The writer's sheet: its records are laid into a lent buffer, each past the one before. That a count is at most eight is a fact
+// about the map that is given: a Count beside it would be no plainer, since it would have to be this map's.
 ghost use Rattle.std.specs.Prelude.{◌≡◌, ◌+◌, ◌*◌, ◌≤◌, length};
 ghost use Rattle.model.specs.Map.{most};
 ghost use Rattle.model.specs.Sheet.{domain_records, channel_records, sheet_bytes};
@@ -24,7 +23,7 @@ pub fn channel_count(g: [[bool; MOST]; MOST]) -> usize
 }
 
 // Lays the bytes at an offset, and returns the offset past them.
-// The offset stands beside the buffer: of a struct that held the lent buffer, each contract would say too that it holds the same one still.
+// The offset stands beside the buffer: a struct of the two would be no plainer, since three functions pass it on and `Laid` is said of the buffer.
 fn lay(buffer: &mut [u8], at: usize, bytes: &[u8]) -> usize
     requires { at + length bytes.now ≤ length buffer.old }
     ensures { Laid at bytes.now buffer.old result buffer.new }

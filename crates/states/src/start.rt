@@ -29,6 +29,7 @@ pub fn start(m: Map) -> State
     let mut contexts = no_state().contexts;
     // A count past MOST has no more domains than MOST.
     let own = &m.domains[..usize::from(m.count).min(MOST)];
+    // Tried: `contexts.iter_mut().zip(own)`. What the array holds after it is not told to a proof.
     for (i, d) in own.iter().enumerate() {
         contexts[i] = at_entry(d.entry);
     }

@@ -1,4 +1,5 @@
 // "Switching takes the first ready domain after the active one, going round and ending at itself; with none, active becomes 0."
+// 0 is that state's own number, so it is no Option.
 ghost use Rattle.std.specs.Prelude.{◌≡◌};
 ghost use Rattle.model.specs.States.{after, first_ready, switch};
 

@@ -1,15 +1,16 @@
--- Refused, or the steps of a node that was tested, counted.
+-- The steps of a node that was tested, counted.
 use Rattle.std.proofs.Common.{rules, refl}
-use Rattle.model.specs.Calls.{batcher}
-use Rattle.machine.proofs.Shape.{eight}
-use Rattle.machine.proofs.Calls.{tested, batch_left, batch_done}
+use Rattle.machine.proofs.Calls.{batch_left, batch_done}
 use Rattle.machine.proofs.batch.Goals as goal
 
-pub invariant_of-node : goal.invariant_of-node
-invariant_of-node c = record { sound = tested _ _ _ _ c.node_verdict.ensures c.in_default.is (eight c.args.s _ c.well_formed.1.1.0) }
-
 pub overflow_sub-result : goal.overflow_sub-result
-overflow_sub-result c = batch_left _ _ _ _ c.node_verdict.ensures c.in_default.is c.args.limit c.run-done.ensures
+overflow_sub-result c =
+    let a = c.args in
+    let k = c.in-Ok.ensures.ok in
+    batch_left a.m a.g a.s a.memory.now refl k.3 a.limit (rw (k.0, k.1, k.2) at c.run-done.ensures)
 
-pub returns : goal.returns
-returns c = batch_done _ _ _ _ c.node_verdict.ensures c.in_default.is c.args.limit c.run-done.ensures refl (search rules)
+pub returns-after-done-eq0 : goal.returns-after-done-eq0
+returns-after-done-eq0 c =
+    let a = c.args in
+    let k = c.in-Ok.ensures.ok in
+    batch_done a.m a.g a.s a.memory.now refl k.3 a.limit (rw (k.0, k.1, k.2) at c.run-done.ensures) refl (search rules)

@@ -1,12 +1,10 @@
--- Refused, or the trace of a node that was tested.
-use Rattle.std.proofs.Common.{rules}
-use Rattle.model.specs.Calls.{player}
-use Rattle.machine.proofs.Shape.{eight}
-use Rattle.machine.proofs.Calls.{tested, play_done}
+-- The trace of a node that was tested.
+use Rattle.std.proofs.Common.{refl}
+use Rattle.machine.proofs.Calls.{play_done}
 use Rattle.machine.proofs.play.Goals as goal
 
-pub invariant_of-node : goal.invariant_of-node
-invariant_of-node c = record { sound = tested _ _ _ _ c.node_verdict.ensures c.in_default.is (eight c.args.s _ c.well_formed.1.1.0) }
-
-pub returns : goal.returns
-returns c = play_done _ _ _ _ c.node_verdict.ensures c.in_default.is c.args.trace.now c.play_on.ensures
+pub returns-in-Ok : goal.returns-in-Ok
+returns-in-Ok c =
+    let a = c.args in
+    let k = c.in-Ok.ensures.ok in
+    play_done a.m a.g a.s a.memory.now refl k.3 a.trace.now (rw (k.0, k.1, k.2) at c.play_on.ensures)
