@@ -24,7 +24,7 @@ mod writers;
 use std::io;
 use std::io::Read;
 
-// Of standard input, the first bytes.
+// As many of standard input's bytes are the table; the rest is not read.
 const TABLE: usize = 65536;
 
 // What is read, as far as the buffer goes. A read that fails is the end.
@@ -42,7 +42,7 @@ fn fill<'a>(input: &mut impl Read, buffer: &'a mut [u8]) -> &'a [u8] {
 
 fn main(rt: HostRuntime) {
     let mut space = [0; TABLE];
-    let text = fill(&mut rt.reader(), &mut space);
+    let text = fill(&mut rt.stdin(), &mut space);
     let mut out = io::writer(&rt);
     for line in text.split_inclusive(|b| *b == b'\n') {
         if !line.starts_with(b"#") {

@@ -57,8 +57,8 @@ pub fn bytes<const N: usize>(text: &[u8]) -> ArrayVec<u8, N> {
     bytes
 }
 
-// Numbers laid into a lent buffer from a place on; what has no room is left out, so that no caller has to have measured.
-// The offset stands beside the buffer: a part would be `get_mut(at..).unwrap_or_default()` at each of five calls, which is no plainer.
+// Numbers laid into a buffer of at most ROOM bytes from a place on; what has no room is left out, so that no caller has to have measured.
+// The offset stands beside the buffer: a part would be `get_mut(at..).unwrap_or_default()` at each of four calls, which is no plainer.
 pub fn put(to: &mut [u8], at: usize, text: &[u8]) {
     for (place, b) in to.iter_mut().skip(at).zip(bytes::<ROOM>(text).as_slice()) {
         *place = *b;
