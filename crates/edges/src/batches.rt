@@ -4,8 +4,8 @@ use crate::case_l;
 use crate::say::Said;
 use crate::table::Pieces;
 use model::call::Ending;
-use std::alloc::{AllocError, Global};
-use std::fmt;
+use std::io::Write;
+use std::{fmt, io};
 
 impl fmt::Display for Said<Ending> {
     fn fmt<W: fmt::Write>(&self, f: &mut fmt::Formatter<W>) -> fmt::Result {
@@ -17,10 +17,12 @@ impl fmt::Display for Said<Ending> {
 }
 
 // NAME: Batch;PROGRAM;PROGRAM;TRACE;ACTIVE;LENGTH;N
-pub fn batch(alloc: Global, case: Pieces<'_>) -> Result<String, AllocError> {
-    let mut memory = case_l::memory(alloc, case, case.number(5))?;
-    let memory = memory.as_mut_slice();
-    let played = play_on(alloc, with_active(case.number(4)), memory, case.text(3))?;
+pub fn batch(out: &mut impl Write, case: Pieces<'_>) -> io::Result<()> {
+    let mut space = case_l::memory(case);
+    let Some(memory) = space.get_mut(..case.number(5)) else {
+        return Ok(());
+    };
+    let played = play_on(with_active(case.number(4)), memory, case.text(3));
     let done = machine::batch(
         case_l::map(),
         case_l::grid(),
@@ -28,7 +30,8 @@ pub fn batch(alloc: Global, case: Pieces<'_>) -> Result<String, AllocError> {
         memory,
         case.number(6),
     );
-    format!(in alloc;
+    write!(
+        out,
         "steps {}, {}, active {}",
         done.steps,
         Said(done.ending),

@@ -1,4 +1,4 @@
-// The table's cases: a name, a colon and a space, and then fields, of which the first one says what the others are.
+// The table's cases: a name, a colon and a space, and then fields, of which the first one's letter says what the others are.
 use crate::batches::batch;
 use crate::eight::largest;
 use crate::events::{call, event};
@@ -8,31 +8,37 @@ use crate::table::Pieces;
 use crate::views::view;
 use crate::writers::{identical, read, write};
 use crate::{after, node, plays};
-use std::alloc::{AllocError, Global};
+use std::io;
+use std::io::Write;
 
-fn outcome(alloc: Global, case: Pieces<'_>) -> Result<String, AllocError> {
-    match case.text(0) {
-        "Batch" => batch(alloc, case),
-        "Call" => call(alloc, case),
-        "Event" => event(alloc, case),
-        "Identical" => identical(alloc),
-        "Largest" => largest(alloc, case),
-        "May" => may(alloc, case),
-        "Play" => plays::play(alloc, case),
-        "Read" => read(alloc, case),
-        "Start" => start(alloc, case),
-        "View" => view(alloc, case),
-        "Write" => write(alloc, case),
-        "eight" => node::eight(alloc, case),
-        "play" => after::play(alloc, case),
-        "sheet" => node::sheet(alloc, case),
-        _ => Ok(String::new(alloc)),
+// A letter and no enum of the verbs: the codes are standard input's, which stays, and each is met here alone.
+fn outcome(out: &mut impl Write, case: Pieces<'_>) -> io::Result<()> {
+    match case.text(0).first() {
+        Some(b'B') => batch(out, case),
+        Some(b'C') => call(out, case),
+        Some(b'E') => event(out, case),
+        Some(b'I') => identical(out),
+        Some(b'L') => largest(out, case),
+        Some(b'M') => may(out, case),
+        Some(b'P') => plays::play(out, case),
+        Some(b'R') => read(out, case),
+        Some(b'S') => start(out, case),
+        Some(b'V') => view(out, case),
+        Some(b'W') => write(out, case),
+        Some(b'e') => node::eight(out, case),
+        Some(b'p') => after::play(out, case),
+        Some(b's') => node::sheet(out, case),
+        _ => Ok(()),
     }
 }
 
 // NAME: VERB;FIELD;FIELD ..
-pub fn told(alloc: Global, line: &str) -> Result<String, AllocError> {
-    let (name, fields) = line.split_once(": ").unwrap_or((line, ""));
-    let outcome = outcome(alloc, Pieces::fields(fields))?;
-    format!(in alloc; "{name}: {outcome}")
+pub fn tell(out: &mut impl Write, line: &[u8]) -> io::Result<()> {
+    let mut parts = line.splitn(2, |b| *b == b':');
+    let name = parts.next().unwrap_or_default();
+    let fields = parts.next().and_then(|rest| rest.get(1..));
+    out.write_all(name)?;
+    out.write_all(b": ")?;
+    outcome(out, Pieces::fields(fields.unwrap_or_default()))?;
+    out.write_all(b"\n")
 }

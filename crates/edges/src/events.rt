@@ -8,15 +8,16 @@ use crate::say::Said;
 use crate::table::Pieces;
 use model::call::Stepped;
 use model::event::Event;
-use std::alloc::{AllocError, Global};
+use std::io;
+use std::io::Write;
 
-fn told(alloc: Global, s: Stepped) -> Result<String, AllocError> {
-    format!(in alloc; "{}, active {}", Said(s.reply), s.state.active)
+fn told(out: &mut impl Write, s: Stepped) -> io::Result<()> {
+    write!(out, "{}, active {}", Said(s.reply), s.state.active)
 }
 
 // An event is its kind and, for a word in, the domain and the word. The kinds are numbers in standard input, which stays.
 fn event_of(numbers: Pieces<'_>) -> Event {
-    match numbers.number::<u8>(0) {
+    match numbers.number::<u64>(0) {
         1 => Event::Step,
         2 => Event::Tick,
         _ => Event::WordIn(numbers.number(1), numbers.number(2)),
@@ -24,19 +25,19 @@ fn event_of(numbers: Pieces<'_>) -> Event {
 }
 
 // NAME: Event;MAP;ACTIVE;LENGTH;EVENT
-pub fn event(alloc: Global, case: Pieces<'_>) -> Result<String, AllocError> {
-    let mut memory = vec![in alloc; 0; case.number(5)]?;
+pub fn event(out: &mut impl Write, case: Pieces<'_>) -> io::Result<()> {
+    let mut space = [0; 256];
+    let Some(memory) = space.get_mut(..case.number(5)) else {
+        return Ok(());
+    };
     let s = with_active(case.number(4));
     let e = event_of(case.numbers(6));
-    told(
-        alloc,
-        machine::event(map(case), grid(case), s, memory.as_mut_slice(), e),
-    )
+    told(out, machine::event(map(case), grid(case), s, memory, e))
 }
 
 // The call that is for an event's kind alone.
 // NAME: Call;EVENT;ACTIVE;DOMAIN;DOMAIN;DOMAIN
-pub fn call(alloc: Global, case: Pieces<'_>) -> Result<String, AllocError> {
+pub fn call(out: &mut impl Write, case: Pieces<'_>) -> io::Result<()> {
     let (m, g, s) = (case_l::map(), case_l::grid(), state(case));
     let mut memory = [0; 256];
     let stepped = match event_of(case.numbers(1)) {
@@ -44,5 +45,5 @@ pub fn call(alloc: Global, case: Pieces<'_>) -> Result<String, AllocError> {
         Event::Tick => machine::tick(m, g, s, &mut memory),
         Event::WordIn(d, w) => machine::word_in(m, g, s, &mut memory, d, w),
     };
-    told(alloc, stepped)
+    told(out, stepped)
 }

@@ -2,24 +2,33 @@
 use crate::numbers::{bytes, put};
 use crate::table::Pieces;
 use crate::{case_l, eight};
-use std::alloc::{AllocError, Global};
-use std::str;
+use std::io;
+use std::io::Write;
 
 // A byte more than the largest sheet has.
 pub const ROOM: usize = 352;
 
+// The most bytes that a trace has.
+pub const TRACE: usize = 64;
+
 // What the program prints, with a comma between two lines.
 pub fn transcript(
-    alloc: Global,
+    out: &mut impl Write,
     sheet: &[u8],
     memory: &mut [u8],
-    trace: &str,
-) -> Result<String, AllocError> {
-    let trace = bytes(alloc, trace)?;
+    trace: &[u8],
+) -> io::Result<()> {
+    let trace = bytes::<TRACE>(trace);
     let mut room = [0; 1024];
     let n = lines::transcript(sheet, memory, trace.as_slice(), &mut room);
-    let text = str::from_utf8(room.get(..n).unwrap_or_default()).unwrap_or_default();
-    text.trim_end().replace(alloc, '\n', ", ")
+    let text = room.get(..n).unwrap_or_default();
+    for (i, line) in text.split_inclusive(|b| *b == b'\n').enumerate() {
+        if 0 < i {
+            out.write_all(b", ")?;
+        }
+        out.write_all(line.strip_suffix(b"\n").unwrap_or(line))?;
+    }
+    Ok(())
 }
 
 // Fields 1 to 3: some bytes of the sheet edited, and how many of them there are.
@@ -29,22 +38,20 @@ fn edited<'a>(case: Pieces<'_>, sheet: &'a mut [u8]) -> &'a [u8] {
 }
 
 // NAME: sheet;AT;BYTES;CUT;LENGTH;TRACE;ENTRY;PROGRAM
-pub fn sheet(alloc: Global, case: Pieces<'_>) -> Result<String, AllocError> {
+pub fn sheet(out: &mut impl Write, case: Pieces<'_>) -> io::Result<()> {
     let mut sheet = [0; ROOM];
     put(&mut sheet, 0, case_l::SHEET);
-    let mut memory = vec![in alloc; 0; case.number(4)]?;
-    put(memory.as_mut_slice(), case.number(6), case.text(7));
-    transcript(
-        alloc,
-        edited(case, &mut sheet),
-        memory.as_mut_slice(),
-        case.text(5),
-    )
+    let mut space = [0; 257];
+    put(&mut space, case.number(6), case.text(7));
+    match space.get_mut(..case.number(4)) {
+        Some(memory) => transcript(out, edited(case, &mut sheet), memory, case.text(5)),
+        None => Ok(()),
+    }
 }
 
 // NAME: eight;AT;BYTES;CUT;TRACE;ALL
-pub fn eight(alloc: Global, case: Pieces<'_>) -> Result<String, AllocError> {
+pub fn eight(out: &mut impl Write, case: Pieces<'_>) -> io::Result<()> {
     let mut sheet = [0; ROOM];
     eight::put_sheet(&mut sheet, case.text(5));
-    transcript(alloc, edited(case, &mut sheet), &mut [0; 256], case.text(4))
+    transcript(out, edited(case, &mut sheet), &mut [0; 256], case.text(4))
 }

@@ -3,8 +3,8 @@ use crate::after::{play_on, with_active};
 use crate::say::Said;
 use crate::table::Pieces;
 use model::call::Stop;
-use std::alloc::{AllocError, Global};
-use std::fmt;
+use std::io::Write;
+use std::{fmt, io};
 
 impl fmt::Display for Said<Stop> {
     fn fmt<W: fmt::Write>(&self, f: &mut fmt::Formatter<W>) -> fmt::Result {
@@ -16,15 +16,14 @@ impl fmt::Display for Said<Stop> {
 }
 
 // NAME: Play;ACTIVE;LENGTH;TRACE
-pub fn play(alloc: Global, case: Pieces<'_>) -> Result<String, AllocError> {
-    let mut memory = vec![in alloc; 0; case.number(2)]?;
-    let done = play_on(
-        alloc,
-        with_active(case.number(1)),
-        memory.as_mut_slice(),
-        case.text(3),
-    )?;
-    format!(in alloc;
+pub fn play(out: &mut impl Write, case: Pieces<'_>) -> io::Result<()> {
+    let mut space = [0; 256];
+    let Some(memory) = space.get_mut(..case.number(2)) else {
+        return Ok(());
+    };
+    let done = play_on(with_active(case.number(1)), memory, case.text(3));
+    write!(
+        out,
         "{}, events {}, active {}",
         Said(done.close.map(|()| "done")),
         done.events,

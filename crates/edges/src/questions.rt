@@ -3,13 +3,14 @@ use crate::maps::{grid, map};
 use crate::say::Said;
 use crate::table::Pieces;
 use model::map::Access;
-use std::alloc::{AllocError, Global};
-use std::fmt;
+use std::io::Write;
+use std::{fmt, io};
 
-fn access(word: &str) -> Access {
-    match word {
-        "read" => Access::Read,
-        "write" => Access::Write,
+// By its first letter.
+fn access(word: &[u8]) -> Access {
+    match word.first() {
+        Some(b'r') => Access::Read,
+        Some(b'w') => Access::Write,
         _ => Access::Fetch,
     }
 }
@@ -22,7 +23,7 @@ impl fmt::Display for Said<bool> {
 }
 
 // NAME: May;MAP;D;ACCESS;A
-pub fn may(alloc: Global, case: Pieces<'_>) -> Result<String, AllocError> {
+pub fn may(out: &mut impl Write, case: Pieces<'_>) -> io::Result<()> {
     let answer = rights::question(
         map(case),
         grid(case),
@@ -30,5 +31,5 @@ pub fn may(alloc: Global, case: Pieces<'_>) -> Result<String, AllocError> {
         access(case.text(5)),
         case.number(6),
     );
-    Said(answer).to_string(alloc)
+    write!(out, "{}", Said(answer))
 }

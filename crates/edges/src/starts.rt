@@ -4,14 +4,15 @@ use crate::answer::DomainOf;
 use crate::maps::{grid, map};
 use crate::say::Said;
 use crate::table::Pieces;
-use std::alloc::{AllocError, Global};
+use std::io;
+use std::io::Write;
 
 // NAME: Start;MAP;D
-pub fn start(alloc: Global, case: Pieces<'_>) -> Result<String, AllocError> {
+pub fn start(out: &mut impl Write, case: Pieces<'_>) -> io::Result<()> {
     let started = machine::start(map(case), grid(case));
     let verdict = Said(started.verdict.map(|()| "accepted"));
     match case.number(4) {
-        0 => format!(in alloc; "{verdict}, active {}", started.state.active),
-        d => format!(in alloc; "{verdict}{}", DomainOf(started.state, d)),
+        0 => write!(out, "{verdict}, active {}", started.state.active),
+        d => write!(out, "{verdict}{}", DomainOf(started.state, d)),
     }
 }

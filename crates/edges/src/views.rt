@@ -3,11 +3,11 @@
 use crate::maps::{grid, map};
 use crate::say::Said;
 use crate::table::Pieces;
-use std::alloc::{AllocError, Global};
-use std::fmt::Write;
+use std::io;
+use std::io::Write;
 
 // NAME: View;MAP;D;LENGTH, where the memory has 1 at 64, 2 at 95, 3 at 128 and 4 at 159.
-pub fn view(alloc: Global, case: Pieces<'_>) -> Result<String, AllocError> {
+pub fn view(out: &mut impl Write, case: Pieces<'_>) -> io::Result<()> {
     let (m, g, d) = (map(case), grid(case), case.number(4));
     let mut memory = [0; 256];
     memory[64] = 1;
@@ -17,9 +17,9 @@ pub fn view(alloc: Global, case: Pieces<'_>) -> Result<String, AllocError> {
     let lent = memory.get(..case.number(5)).unwrap_or_default();
     let own = machine::view(m, g, lent, d);
     let verdict = Said(machine::view_verdict(m, g, lent, d).map(|()| "accepted"));
-    let mut told = format!(in alloc; "{verdict}, bytes {}", own.len())?;
+    write!(out, "{verdict}, bytes {}", own.len())?;
     if let (Some(first), Some(last)) = (own.first(), own.last()) {
-        write!(told, ", first {first}, last {last}")?;
+        write!(out, ", first {first}, last {last}")?;
     }
-    Ok(told)
+    Ok(())
 }

@@ -6,8 +6,8 @@ use crate::numbers::bytes;
 use crate::say::Said;
 use crate::table::Pieces;
 use model::MOST;
-use std::alloc::{AllocError, Global};
-use std::fmt::{self, Write};
+use std::io::Write;
+use std::{fmt, io};
 
 // How many bytes a sheet's writer set.
 impl fmt::Display for Said<usize> {
@@ -18,39 +18,41 @@ impl fmt::Display for Said<usize> {
 
 // A buffer of LENGTH bytes, each 255 before, in front of more of them.
 // NAME: Write;MAP;LENGTH
-pub fn write(alloc: Global, case: Pieces<'_>) -> Result<String, AllocError> {
+pub fn write(out: &mut impl Write, case: Pieces<'_>) -> io::Result<()> {
     let mut space = [255; ROOM];
-    let buffer = space.get_mut(..case.number(4)).unwrap_or_default();
-    let mut told = Said(sheet::write(map(case), grid(case), buffer)).to_string(alloc)?;
-    for at in [0, 59, 60] {
-        write!(told, ", byte {at} is {}", space[at])?;
+    if let Some(buffer) = space.get_mut(..case.number(4)) {
+        write!(out, "{}", Said(sheet::write(map(case), grid(case), buffer)))?;
     }
-    Ok(told)
+    for at in [0, 59, 60] {
+        write!(out, ", byte {at} is {}", space[at])?;
+    }
+    Ok(())
 }
 
 // The bytes that the writer sets are those of Case L's sheet.
 // NAME: Identical
-pub fn identical(alloc: Global) -> Result<String, AllocError> {
+pub fn identical(out: &mut impl Write) -> io::Result<()> {
     let mut buffer = [0; 60];
     let writing = Said(sheet::write(case_l::map(), case_l::grid(), &mut buffer));
-    let as_read = if buffer.as_slice() == bytes(alloc, case_l::SHEET)?.as_slice() {
+    let as_read = if buffer.as_slice() == bytes::<60>(case_l::SHEET).as_slice() {
         ", as read"
     } else {
         ""
     };
-    format!(in alloc; "{writing}{as_read}")
+    write!(out, "{writing}{as_read}")
 }
 
 // "On refusal the map is all zero and the grid all no." The grid was all yes before.
 // NAME: Read;CUT
-pub fn read(alloc: Global, case: Pieces<'_>) -> Result<String, AllocError> {
+pub fn read(out: &mut impl Write, case: Pieces<'_>) -> io::Result<()> {
     let mut g = [[true; MOST]; MOST];
-    let bytes = bytes(alloc, case_l::SHEET)?;
-    let cut = bytes.get(..case.number(1)).unwrap_or_default();
+    let bytes = bytes::<60>(case_l::SHEET);
+    let cut = bytes.as_slice().get(..case.number(1)).unwrap_or_default();
     let got = sheet::read(cut, &mut g);
     let m = got.map;
     let first = m.domains[0];
-    let mut told = format!(in alloc;
+    write!(
+        out,
         "{}, length {}, count {}, entry {}, marks",
         Said(got.reading.map(|()| "whole")),
         m.length,
@@ -58,7 +60,7 @@ pub fn read(alloc: Global, case: Pieces<'_>) -> Result<String, AllocError> {
         first.entry
     )?;
     for mark in [g[0][0], g[0][1], g[1][0], g[7][7]] {
-        write!(told, " {}", Said(mark))?;
+        write!(out, " {}", Said(mark))?;
     }
-    Ok(told)
+    Ok(())
 }
