@@ -1,4 +1,4 @@
-// The calls of crates rights, sheet and machine, with the parameters that they have.
+// The calls of crates rights, sheet and machine, with the calls' own parameters (the form that document 01 asks for: crates/machine/src/lib.rt).
 ghost use Rattle.std.specs.Prelude.{◌≡◌};
 ghost use Rattle.model.specs.Calls.{left};
 ghost use Rattle.model.specs.declared.event.Event.{Event};

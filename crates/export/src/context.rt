@@ -1,4 +1,4 @@
-// A context as 15 words: eight registers, counter, status, the status's number, the box.
+// A context as 15 words: eight registers, counter, status, the status's number, the box. Functions and no `From`: C's layout is no part of crate model.
 ghost use Rattle.std.specs.Prelude.{◌≡◌};
 ghost use Rattle.export.specs.StateWords.{context_from, context_words};
 

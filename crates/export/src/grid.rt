@@ -1,4 +1,4 @@
-// A grid as 64 bytes, row by row.
+// A grid as 64 bytes, row by row. Functions and no `From`: C's layout is no part of crate model.
 ghost use Rattle.std.specs.Prelude.{◌≡◌, ◌<◌, [], length, get_or};
 ghost use Rattle.export.specs.MapWords.{row_at, grid_of, row_bytes, grid_bytes};
 
@@ -14,7 +14,7 @@ fn row(bytes: [u8; 8]) -> [bool; MOST]
 pub fn grid_of(bytes: &[u8; 64]) -> [[bool; MOST]; MOST]
     ensures { result ≡ grid_of bytes.now }
 {
-    let (rows, _) = bytes.as_chunks();
+    let (rows, _) = bytes.as_chunks::<8>();
     from_fn(
         |f: usize| -> [bool; MOST]
             requires { f < length rows.now }

@@ -1,4 +1,4 @@
-// A map as 44 words: length, kernel, count, then five a domain.
+// A map as 44 words: length, kernel, count, then five a domain. Functions and no `From`: C's layout is no part of crate model.
 ghost use Rattle.std.specs.Prelude.{◌≡◌, ◌<◌, [], length, get_or};
 ghost use Rattle.model.specs.Map.{absent};
 ghost use Rattle.export.specs.MapWords.{domain_from, map_of, domain_words, map_words};
@@ -27,7 +27,7 @@ fn domain(words: [u32; 5]) -> Domain
 pub fn map_of(words: &[u32; 44]) -> Map
     ensures { result ≡ map_of words.now }
 {
-    let (domains, _) = words[4..].as_chunks();
+    let (domains, _) = words[4..].as_chunks::<5>();
     Map {
         length: words[0],
         kernel: Region {

@@ -1,5 +1,5 @@
-// A status and a fault's reason as three words: which, and the number of a fault. include/arcovinda.h fixes the words, and both types are of
-// crate model, so these conversions are functions and no impls.
+// A status and a fault's reason as three words: which, and the number of a fault. include/arcovinda.h fixes the words, so these
+// conversions are functions and no impls: C's layout is no part of crate model.
 ghost use Rattle.std.specs.Prelude.{◌≡◌};
 ghost use Rattle.export.specs.StateWords.{reason_words, status_words, status_of};
 

@@ -1,5 +1,4 @@
-// A state as 121 words: active, then 15 a context. Its parts are made by from_fn: with map, which moves them through an iterator, this takes
-// twice as long.
+// A state as 121 words: active, then 15 a context. Functions and no `From`: C's layout is no part of crate model.
 ghost use Rattle.std.specs.Prelude.{◌≡◌, ◌<◌, [], length, get_or};
 ghost use Rattle.model.specs.States.{missing};
 ghost use Rattle.export.specs.StateWords.{context_from, context_words, unpacked, packed, state_of};
@@ -12,7 +11,7 @@ use std::array::from_fn;
 fn unpacked(words: &[u32; 121]) -> State
     ensures { result ≡ unpacked words.now }
 {
-    let (contexts, _) = words[1..].as_chunks();
+    let (contexts, _) = words[1..].as_chunks::<15>();
     State {
         active: (words[0] % 256) as u8,
         contexts: from_fn(

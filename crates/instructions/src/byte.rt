@@ -37,7 +37,7 @@ pub fn put(memory: &mut [u8], a: usize, bytes: &[u8])
 {
     for (i, b) in bytes.iter().enumerate() {
         let at = a.saturating_add(i);
-        // No `get_mut`: what the slice holds after it is not told to a proof.
+        // Tried: `get_mut`. What the slice holds after it is not told to a proof.
         if at < memory.len() {
             memory[at] = *b;
         }

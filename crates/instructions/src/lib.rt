@@ -1,6 +1,5 @@
 // The instructions of one domain: decoding, the access that the rule allows, and a stretch of them that ends where one needs more
-// than its own registers and the memory. What a stretch calls is inlined into its loop, so that each kind is compiled by itself: without, a step takes
-// nearly twice as long.
+// than its own registers and the memory. What a stretch calls is inlined into its loop, so that each kind is compiled by itself.
 #![tactic(auto)]
 
 mod access;

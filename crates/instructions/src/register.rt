@@ -16,7 +16,7 @@ pub fn set_register(registers: &mut [u32; 8], r: u8, v: u32)
     ensures { registers.new ≡ slice_set registers.old r v }
 {
     let r = usize::from(r);
-    // No `get_mut`: what the array holds after it is not told to a proof.
+    // Tried: `get_mut`. What the array holds after it is not told to a proof.
     if r < registers.len() {
         registers[r] = v;
     }

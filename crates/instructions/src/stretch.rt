@@ -42,7 +42,7 @@ impl Held {
     }
 
     // "fetch of the kind byte", then the rest for each kind by itself: its tests and its effect are compiled for that kind alone, after
-    // one jump. The accesses share theirs with what is no kind.
+    // one jump: 01's form, "decoding matches the kind byte over twenty cases and ranges". Loads, stores and what is no kind are the last arm's.
     #[tactic(auto, unfolding(model::specs::Instructions::plan, model::specs::Instructions::carry, model::specs::Map::lowest, model::specs::Map::may))]
     #[inline(always)]
     fn one(&self, counter: u32, registers: &mut [u32; 8], memory: &mut [u8]) -> Result<Went, Reason>

@@ -1,4 +1,5 @@
-// How an instruction went, for its own domain. The last number of a case is the counter past the instruction.
+// How an instruction went, for its own domain. The last number of a case is the counter after it. A fault is a case
+// here too, and not an error beside them: what ends a stretch is taken apart in one match.
 use model::state::Reason;
 
 #[derive(Clone, Copy)]

@@ -42,6 +42,7 @@ impl Held {
         let x = register(registers, r);
         let y = register(registers, s);
         let a = Address::new(y, o);
+        // One match and no table of functions: an instruction is compiled into its own arm of `one`, where the effect is known.
         match effect {
             Effect::Nothing => Ok(Went::Moved(next)),
             Effect::Set => Ok(becomes(registers, r, u32::from_le_bytes([s, o, p, q]), next)),

@@ -91,7 +91,8 @@ impl Page<'_> {
         }
     }
 
-    // "For a trace this line stands between the events and the active domain"
+    // "For a trace this line stands between the events and the active domain". The answer comes whole: the else branch of a let else has no name for
+    // the refusal.
     #[tactic(auto, unfolding(crate::specs::Puts::puts))]
     pub fn broken_line(&mut self, read: EventRead, at: usize)
         ensures { self.new ≡ onto self.old (broken_line read at) }

@@ -1,4 +1,4 @@
-// The table's first column, as a call.
+// The table's first column, as the call that docs/USING.md names.
 ghost use Rattle.std.specs.Prelude.{◌≡◌};
 ghost use Rattle.model.specs.Refusals.{refusal_number};
 

@@ -3,7 +3,7 @@ ghost use Rattle.std.specs.Prelude.{◌≡◌, ◌++◌};
 ghost use Rattle.model.specs.Program.{decimal};
 ghost use Rattle.lines.specs.Pages.{onto};
 
-// A lent buffer, and how many of its first bytes are set.
+// A lent buffer, and how many of its first bytes are set. No invariant: a page whose end lies past its buffer takes nothing more.
 #[derive(Drop)]
 pub struct Page<'a> {
     pub text: &'a mut [u8],

@@ -1,6 +1,7 @@
 // The machine: start, step, tick, word-in, one event, a trace, a batch, and the view of a domain's data. No call asks its caller to have
 // looked first: each tests what it is given, in document 01's order, and refuses with the paper's number. Map, grid, state and memory stay four
-// parameters: 01 asks for "an array of eight arrays passed by value beside the map struct", and these are the calls that docs/USING.md names.
+// parameters: 01 asks for "an array of eight arrays passed by value beside the map struct", and these are the calls that docs/USING.md names, each
+// here with its contract; what they share with each other and with the play is in the modules.
 #![tactic(auto)]
 
 mod happen;

@@ -10,7 +10,7 @@ use model::event::EventRead;
 use model::refusal::RefusedAt;
 use stepping::node::Node;
 
-// 11 or 12, and the offset.
+// 11 or 12, and the offset. The answer comes whole: document 01 asks for a let else, whose else branch has no name for the refusal.
 fn broken(read: EventRead, at: usize) -> Result<(), Stop>
     ensures { result ≡ closed read at }
 {

@@ -1,5 +1,5 @@
 -- Laws of Refusals: what acceptance tells.
---     Acceptable            the facts that `accepts m g ≡ Accepted` gives, by `acceptable`, and that give it, by `accept`
+--     Acceptable            the facts that `accepts m g ≡ Ok tt` gives, by `acceptable`, and that give it, by `accept`
 -- Assumes nothing.
 use Rattle.std.specs.Prelude.{ℕ, zero, suc, ◌+◌, ◌*◌, ◌≤◌, ◌<◌, ◌≡◌, refl, Bool, true, false, ◌&&◌, not, leb, ltb, Ok, Err}
 use Rattle.std.proofs.Common.{arith, add-zero, zero-add, ltb-true, ltb-false, leb-true, le-leb}

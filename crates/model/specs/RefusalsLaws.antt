@@ -1,5 +1,5 @@
 -- What acceptance tells, as facts: the words of the laws in proofs/RefusalsLaws.antt.
---     Acceptable            the facts that `accepts m g ≡ Accepted` gives;   Placed: those of one domain
+--     Acceptable            the facts that `accepts m g ≡ Ok tt` gives;   Placed: those of one domain
 -- Assumes nothing.
 use Rattle.std.specs.Prelude.{ℕ, ◌*◌, ◌≤◌, ◌<◌, ◌≡◌, Bool, true, ◌||◌, not, ltb, Ok}
 use Rattle.model.specs.Map.{most, inside, overlaps, Grid, nth}

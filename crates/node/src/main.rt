@@ -41,8 +41,8 @@ fn load<'a>(rt: &impl Files, path: &str, buffer: &'a mut [u8]) -> &'a mut [u8]
     }
 }
 
-// A write that fails is not told: the program's exit status is always 0. The room comes as an array, since `main` has no proof that lends its
-// 1,310,800 bytes as a slice.
+// A write that fails is not told: the program's exit status is always 0. The room comes as an array. Tried: lending it from
+// `main` as a slice, where the check of so long an array did not end.
 fn show(rt: &impl Print, sheet: &[u8], memory: &mut [u8], trace: &[u8], room: &mut [u8; TEXT]) {
     let text = &mut room[..];
     let n = lines::transcript(sheet, memory, trace, text);

@@ -1,4 +1,4 @@
-// A record's values, from the bytes of its body.
+// A record's values, from the bytes of its body. Each part lies in its array, as the check of each `unwrap` shows.
 ghost use Rattle.std.specs.Prelude.{◌≡◌};
 ghost use Rattle.model.specs.Sheet.{region_of, domain_of};
 
