@@ -35,7 +35,7 @@ pub fn event(out: &mut impl Write, case: Pieces<'_>) -> io::Result<()> {
     told(out, machine::event(map(case), grid(case), s, memory, e))
 }
 
-// The call that is for an event's kind alone.
+// The call that is for an event's kind alone: a match on the enum's own cases.
 // NAME: Call;EVENT;ACTIVE;DOMAIN;DOMAIN;DOMAIN
 pub fn call(out: &mut impl Write, case: Pieces<'_>) -> io::Result<()> {
     let (m, g, s) = (case_l::map(), case_l::grid(), state(case));

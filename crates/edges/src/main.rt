@@ -30,6 +30,7 @@ const TABLE: usize = 65536;
 // What is read, as far as the buffer goes. A read that fails is the end.
 fn fill<'a>(input: &mut impl Read, buffer: &'a mut [u8]) -> &'a [u8] {
     let mut done = 0;
+    // As in crate node: two programs, and no library for one loop.
     // No `read_exact`, which says nothing of an input that is short, and no `read_to_end`, which needs a heap.
     while done < buffer.len() {
         match input.read(&mut buffer[done..]) {

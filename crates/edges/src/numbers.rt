@@ -2,7 +2,7 @@
 use crate::node::ROOM;
 use arrayvec::ArrayVec;
 
-// A number with one more digit. A number that ends is followed by 0, and one that grows past 64 bits stays.
+// A number with one more digit. A number that ends is followed by 0, and one that grows past 64 bits stays: `parse` would refuse both.
 fn digit(n: u64, b: u8) -> u64 {
     match b.checked_sub(b'0') {
         Some(ones) => n

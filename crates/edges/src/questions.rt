@@ -6,7 +6,7 @@ use model::map::Access;
 use std::io::Write;
 use std::{fmt, io};
 
-// By its first letter.
+// By its first letter: the codes are standard input's, which stays.
 fn access(word: &[u8]) -> Access {
     match word.first() {
         Some(b'r') => Access::Read,

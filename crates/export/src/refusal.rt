@@ -1,4 +1,4 @@
-// 0 where nothing is refused.
+// 0 where nothing is refused: include/arcovinda.h fixes it.
 ghost use Rattle.std.specs.Prelude.{◌≡◌};
 ghost use Rattle.model.specs.Refusals.{verdict_number};
 

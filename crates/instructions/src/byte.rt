@@ -1,7 +1,6 @@
 // The bytes of memory. What lies past its end reads as 0 and is not set, so that no caller has to have looked.
 ghost use Rattle.std.specs.Prelude.{◌≡◌, slice_index};
 ghost use Rattle.std.proofs.lemmas.List.Edits.{sets};
-ghost use Rattle.model.specs.Basics.{number};
 ghost use Rattle.model.specs.Instructions.{peek};
 
 use std::array;
@@ -20,14 +19,6 @@ pub fn peek<const N: usize>(memory: &[u8], a: usize) -> [u8; N]
 {
     let rest = memory.get(a..).unwrap_or(&[]);
     array::from_fn(|i| byte(rest, i))
-}
-
-// "4 bytes little-endian"
-#[inline(always)]
-pub fn number(memory: &[u8], a: usize) -> u32
-    ensures { result ≡ number (peek memory.now a 4) 0 }
-{
-    u32::from_le_bytes(peek(memory, a))
 }
 
 // The bytes from a on become these.

@@ -18,6 +18,7 @@ use model::MOST;
 use model::map::Map;
 
 impl Page<'_> {
+    // Map and grid stay two parameters: the form that document 01 asks for (crates/machine/src/lib.rt).
     // 9 is told before the trace is looked at. The map has a domain 1, so the view's companion call refuses nothing else here.
     fn node_lines(&mut self, m: Map, g: [[bool; MOST]; MOST], memory: &mut [u8], trace: &[u8])
         requires { accepts m g ≡ Ok tt }

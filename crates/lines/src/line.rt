@@ -11,7 +11,7 @@ use model::event::{Answer, EventRead};
 use model::refusal::{Refusal, RefusedAt};
 use model::state::Reason;
 
-// No `Display`: it says what is written only where `fmt` returns Ok, and nothing says that it does; `transcript` promises its text always.
+// Tried: `Display`. It says what is written only where `fmt` returns Ok, and nothing says that it does; `transcript` promises its text always.
 impl Page<'_> {
     #[tactic(auto, unfolding(model::specs::Program::reason_text))]
     fn reason(&mut self, r: Reason)

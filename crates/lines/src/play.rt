@@ -10,6 +10,7 @@ use model::MOST;
 use model::map::Map;
 
 impl Page<'_> {
+    // Map and grid stay two parameters: the form that document 01 asks for (crates/machine/src/lib.rt).
     pub fn trace_lines(&mut self, m: Map, g: [[bool; MOST]; MOST], memory: &mut [u8], trace: &[u8])
         requires { (accepts m g ≡ Ok tt) × (length memory.old ≡ m.length) }
         ensures { left self.new memory.new ≡ told_onto self.old (of_trace m g memory.old trace.now) }

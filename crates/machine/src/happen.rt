@@ -13,6 +13,7 @@ pub fn happen(node: Node, memory: &mut [u8], e: Event) -> Happened
         ≡ event node.map node.grid node.state memory.old e }
 {
     let count = Count { n: node.map.count };
+    // A match on the enum's own cases: closures would be no plainer.
     match e {
         Event::Step => {
             let done = node.run(memory, 1);

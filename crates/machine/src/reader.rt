@@ -24,6 +24,7 @@ pub fn event_at_front(bytes: &[u8]) -> EventRead
     let Some(&kind) = bytes.first() else {
         return Err(Refusal::EventShort);
     };
+    // The kind stays a byte: it is met here alone.
     match kind {
         1 => Ok((Event::Step, 1)),
         2 => Ok((Event::Tick, 1)),

@@ -26,6 +26,7 @@ pub enum Status {
 pub struct Mailbox {
     pub full: bool,
     pub word: u32,
+    // "domain 0 means the device or nobody": no Option, a caller may pass any number.
     pub sender: u8,
 }
 

@@ -1,5 +1,5 @@
 // The records of kinds 4 and 5: "any number of 4 in rising order of (from, to), one 5, nothing after". The offset stands beside
-// the bytes: a refusal tells it.
+// the bytes: `channels` counts it for the refusal, and the contracts are said of the whole sheet.
 ghost use Rattle.std.specs.Prelude.{◌≡◌, ◌<◌, length, get_or, drop};
 ghost use Rattle.model.specs.Sheet.{channels_read};
 ghost use Rattle.sheet.specs.Resumed.{ReadsChannel, closed};
@@ -49,6 +49,7 @@ pub fn channels(s: &[u8], c: Cursor, g: &mut [[bool; MOST]; MOST]) -> Result<Map
 {
     let mut at = c.at;
     let mut p = 0;
+    // No `for`: a record of kind 5 ends the loop, and no index is counted.
     while let Some((row, column)) = channel_record(s, at, c.map.count, p).map_err(
         |refusal| RefusedAt { refusal, at },
     )? {

@@ -9,7 +9,7 @@ use model::refusal::Refusal;
 use rights::region::{sized, within};
 use rights::verdict::check;
 
-// "kind byte present (1), kind allowed (2), body present (1)": the body.
+// "kind byte present (1), kind allowed (2), body present (1)": the body. The offset stands beside the bytes: `Opens` is said of the whole sheet.
 fn one_record<const SIZE: usize>(s: &[u8], at: usize, kind: u8) -> Result<&[u8; SIZE], Refusal>
     ensures { Opens s.now at kind SIZE result }
 {

@@ -23,7 +23,8 @@ pub fn channel_count(g: [[bool; MOST]; MOST]) -> usize
 }
 
 // Lays the bytes at an offset, and returns the offset past them.
-// The offset stands beside the buffer: a struct of the two would be no plainer, since three functions pass it on and `Laid` is said of the buffer.
+// The offset stands beside the buffer: a struct of the two would be no plainer, since every function needs that its bytes
+// fit, so that the length would stand in each contract again.
 fn lay(buffer: &mut [u8], at: usize, bytes: &[u8]) -> usize
     requires { at + length bytes.now ≤ length buffer.old }
     ensures { Laid at bytes.now buffer.old result buffer.new }
@@ -44,6 +45,7 @@ fn put_domains(buffer: &mut [u8], at: usize, m: Map) -> usize
     next
 }
 
+// Cell by cell, as the definition counts them: two loops, over rows and marks, would be no plainer.
 fn put_channels(buffer: &mut [u8], at: usize, g: [[bool; MOST]; MOST]) -> usize
     requires { at + length (channel_records g 0 (most * most)) ≤ length buffer.old }
     ensures { Laid at (channel_records g 0 (most * most)) buffer.old result buffer.new }

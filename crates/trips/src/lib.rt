@@ -8,6 +8,7 @@ use model::MOST;
 use model::call::{Sheet, Writing};
 use model::map::Map;
 
+// Map and grid stay two parameters: the form that document 01 asks for (crates/machine/src/lib.rt).
 // Written and read: where the writer writes, the reader finds the same map and the same grid.
 pub fn write_read(
     m: Map,
