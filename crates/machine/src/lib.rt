@@ -4,6 +4,7 @@
 // here with its contract; what they share with each other and with the play is in the modules.
 #![tactic(auto)]
 
+mod count;
 mod happen;
 mod reader;
 mod trace;
@@ -14,11 +15,12 @@ ghost use Rattle.model.specs.Events.{event_read};
 ghost use Rattle.model.specs.Calls.{left, lent_verdict, view, starter, stepper, player, batcher};
 ghost use Rattle.model.specs.declared.event.Event.{Event};
 
+use crate::count::ending;
 use crate::happen::happen;
 use crate::trace::play_on;
 use crate::verdict::{lent_verdict, tested};
 use model::MOST;
-use model::call::{Batched, Ending, Played, Started, Stepped, Stop, Verdict};
+use model::call::{Batched, Played, Started, Stepped, Stop, Verdict};
 use model::event::{Event, EventRead};
 use model::map::Map;
 use model::state::State;
@@ -116,14 +118,8 @@ pub fn batch(m: Map, g: [[bool; MOST]; MOST], s: State, memory: &mut [u8], limit
     match tested(m, g, s, memory) {
         Ok(node) => {
             let done = node.run(memory, limit);
-            // ""spent" if that equals the limit, else "idle"": nothing is left of the limit
-            let ending = if done.left == 0 {
-                Ending::Spent
-            } else {
-                Ending::Idle
-            };
             Batched {
-                ending: Ok(ending),
+                ending: Ok(ending(done.left)),
                 steps: limit - done.left,
                 state: done.state,
             }

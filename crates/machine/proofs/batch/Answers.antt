@@ -1,5 +1,5 @@
 -- The steps of a node that was tested, counted.
-use Rattle.std.proofs.Common.{rules, refl}
+use Rattle.std.proofs.Common.{refl}
 use Rattle.machine.proofs.Calls.{batch_left, batch_done}
 use Rattle.machine.proofs.batch.Goals as goal
 
@@ -9,8 +9,8 @@ overflow_sub-result c =
     let k = c.in-Ok.ensures.ok in
     batch_left a.m a.g a.s a.memory.now refl k.3 a.limit (rw (k.0, k.1, k.2) at c.run-done.ensures)
 
-pub returns-after-done-eq0 : goal.returns-after-done-eq0
-returns-after-done-eq0 c =
+pub returns-in-Ok : goal.returns-in-Ok
+returns-in-Ok c =
     let a = c.args in
     let k = c.in-Ok.ensures.ok in
-    batch_done a.m a.g a.s a.memory.now refl k.3 a.limit (rw (k.0, k.1, k.2) at c.run-done.ensures) refl (search rules)
+    batch_done a.m a.g a.s a.memory.now refl k.3 a.limit (rw (k.0, k.1, k.2) at c.run-done.ensures) refl c.ending.ensures
