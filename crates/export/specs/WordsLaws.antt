@@ -6,7 +6,7 @@
 --     chunk             a word of a chunk is a word of the block that was cut
 --     alike_pointwise   `==` of two blocks of n words
 -- Assumes nothing.
-use Rattle.std.specs.Prelude.{ℕ, zero, suc, ◌+◌, ◌*◌, ◌<◌, ◌≤◌, ◌≡◌, refl, Bool, true, false, ◌&&◌, List, [], ◌∷◌, eqb, nat_eq, length, get_or, drop}
+use Rattle.std.specs.Prelude.{ℕ, zero, suc, ◌+◌, ◌*◌, ◌<◌, ◌≤◌, ◌≡◌, refl, ◌&&◌, List, [], ◌∷◌, eqb, nat_eq, length, get_or, drop}
 use Rattle.std.specs.List.{flat_map}
 use Rattle.std.specs.Array.{IsFromFnResultFrom, IsFromFnResult}
 use Rattle.std.specs.Fn.{Called}
@@ -15,6 +15,7 @@ use Rattle.std.specs.Cmp.Lexicographic.{pointwise}
 use Rattle.std.proofs.Common.{sym, subst, ap, ◌∙◌, append_assoc, mul-suc, arith}
 use Rattle.std.proofs.lemmas.List.{append-nil, get_or-drop, get_or-take}
 use denote.Param.Members.{Mut}
+use Rattle.model.proofs.BasicsLaws.{and_swap}
 use Rattle.export.specs.Words.{alike, eight, parts}
 
 pub eight_again : {A : Type 0} (xs : List A) (d : A) → length xs ≡ 8 → eight (λ i. get_or xs i d) ≡ xs
@@ -78,16 +79,11 @@ pub eight_laid :
     → {flat block : List ℕ} → flat ≡ flat_map (λ x. x) ys → block ≡ flat → block ≡ parts f
 eight_laid f e v w = w ∙ v ∙ ap (flat_map (λ x. x)) e ∙ simp (append_assoc, append-nil)
 
-swapped : (a b c : Bool) → a && (b && c) ≡ b && (a && c)
-swapped true b c = refl
-swapped false true c = refl
-swapped false false c = refl
-
 alike_cons : (x y : ℕ) (xs ys : List ℕ) (n : ℕ) → alike (x ∷ xs) (y ∷ ys) (suc n) ≡ eqb x y && alike xs ys n
 unfolding alike
 alike_cons x y xs ys zero = refl
 alike_cons x y xs ys (suc n) =
-    rw (alike_cons x y xs ys n) (swapped (eqb (get_or xs n 0) (get_or ys n 0)) (eqb x y) (alike xs ys n))
+    rw (alike_cons x y xs ys n) (and_swap (eqb (get_or xs n 0) (get_or ys n 0)) (eqb x y) (alike xs ys n))
 
 pub alike_pointwise : (xs ys : List ℕ) (n : ℕ) → length xs ≡ n → length ys ≡ n → pointwise nat_eq xs ys ≡ alike xs ys n
 unfolding alike

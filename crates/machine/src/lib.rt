@@ -4,7 +4,7 @@
 // here with its contract; what they share with each other and with the play is in the modules.
 #![tactic(auto)]
 
-mod count;
+mod ending;
 mod happen;
 mod reader;
 mod trace;
@@ -15,7 +15,7 @@ ghost use Rattle.model.specs.Events.{event_read};
 ghost use Rattle.model.specs.Calls.{left, lent_verdict, view, starter, stepper, player, batcher};
 ghost use Rattle.model.specs.declared.event.Event.{Event};
 
-use crate::count::ending;
+use crate::ending::ending;
 use crate::happen::happen;
 use crate::trace::play_on;
 use crate::verdict::{lent_verdict, tested};

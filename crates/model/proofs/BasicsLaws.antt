@@ -1,7 +1,7 @@
 -- Laws of Basics, and of the tests that the definitions are made of.
 --     by_bool, by_option    a proof by cases that keeps the equation
 --     either                what holds of both branches of a choice holds of the choice
---     and_left, and_right   what a conjunction that holds tells
+--     and_left, and_right   what a conjunction that holds tells;   and_swap: the second test made first
 --     number_bytes, bytes_number   a number's four bytes read back, and four bytes written back
 -- Assumes nothing.
 use Rattle.std.specs.Prelude.{ℕ, ◌+◌, ◌*◌, ◌/◌, ◌%◌, ◌^◌, ◌<◌, ◌≡◌, refl, Bool, true, false, ◌&&◌, ◌||◌, [], ◌∷◌, if◌then◌else◌}
@@ -30,6 +30,11 @@ and_left false b e = e
 pub and_right : (a b : Bool) → a && b ≡ true → b ≡ true
 and_right true b e = e
 and_right false b e = cc
+
+pub and_swap : (a b c : Bool) → a && (b && c) ≡ b && (a && c)
+and_swap true b c = refl
+and_swap false true c = refl
+and_swap false false c = refl
 
 pub and_both : {a b : Bool} → a ≡ true → b ≡ true → a && b ≡ true
 and_both e f = rw e f

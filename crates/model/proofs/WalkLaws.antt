@@ -3,19 +3,15 @@
 --     walked         walking a list but for its first k elements is testing each place that is not below k
 --     walked_front   walking the first n elements of a list is testing each place below n, where a place past its end passes
 -- Assumes nothing.
-use Rattle.std.specs.Prelude.{ℕ, zero, suc, ◌≤◌, ◌<◌, ◌≡◌, refl, Bool, true, false, ◌&&◌, List, [], ◌∷◌, length, get_or, take, drop}
+use Rattle.std.specs.Prelude.{ℕ, zero, suc, ◌≤◌, ◌<◌, ◌≡◌, refl, Bool, true, ◌&&◌, List, [], ◌∷◌, length, get_or, take, drop}
 use Rattle.std.specs.List.{list_all}
 use Rattle.std.proofs.Common.{arith, sym, ◌∙◌, ap}
 use Rattle.std.proofs.Math.Seq.{take-nil}
+use Rattle.model.proofs.BasicsLaws.{and_swap}
 
 unfoldable pub each_place : (ℕ → Bool) → ℕ → Bool
 each_place q zero = true
 each_place q (suc n) = let rest = each_place q n in q n && rest
-
-and_swap : (a b c : Bool) → a && (b && c) ≡ b && (a && c)
-and_swap true b c = refl
-and_swap false true c = refl
-and_swap false false c = refl
 
 shift : (q : ℕ → Bool) (n : ℕ) → each_place q (suc n) ≡ q 0 && each_place (λ i. q (suc i)) n
 unfolding each_place

@@ -19,7 +19,6 @@ use Rattle.model.specs.declared.call.Sheet.{Sheet}
 use Rattle.model.specs.declared.call.Started.{Started}
 use Rattle.model.specs.declared.call.Stepped.{Stepped}
 use Rattle.model.specs.declared.call.Played.{Played}
-use Rattle.model.specs.declared.call.Ending.{Ending}
 use Rattle.model.specs.declared.call.Batched.{Batched}
 
 -- what a call returns, with what it was lent as the call leaves it

@@ -40,11 +40,11 @@ onward : (es : List Event) (tail : List ℕ) {a b : ℕ} → a ≡ b → followe
 onward es tail e = ap (λ n. followed es (trace_of n tail)) e
 
 word_read :
-    (b w : ℕ) (rest : List ℕ) → w < 2 ^ 32 → event_read (3 ∷ b ∷ (bytes w ++ rest)) ≡ Ok ((Event.WordIn b w), 6)
+    (b w : ℕ) (rest : List ℕ) → w < 2 ^ 32 → event_read (3 ∷ b ∷ (bytes w ++ rest)) ≡ Ok (Event.WordIn b w, 6)
 unfolding event_read
 word_read b w rest h =
     rw (le-leb 6 (length (3 ∷ b ∷ (bytes w ++ rest))) (omega arith))
-    (ap (λ x. Ok ((Event.WordIn b x), 6)) (number_bytes w h))
+    (ap (λ x. Ok (Event.WordIn b x, 6)) (number_bytes w h))
 
 pub events_before :
     (es : List Event) (at : ℕ) (tail : List ℕ) → Words es

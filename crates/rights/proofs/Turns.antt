@@ -4,13 +4,9 @@ use Prim.Native.Nat.{ℕ, zero, suc, ◌+◌, ◌-◌, ◌<◌}
 use mathlib.Core.Path.{◌≡◌, refl}
 use mathlib.Core.Bool.{Bool, true, false, ◌&&◌, ◌||◌, not}
 use native.Mathlib.Omega.{arith}
-use lib.Dec.{leb, ltb}
-use borrow.Author.Tests.{leb-true, leb-false, le-ltb, lt-ltb}
-use Rattle.model.proofs.BasicsLaws.{by_bool}
 use Rattle.model.proofs.LoopLaws.{back}
 use Rattle.model.specs.Map.{nth, Grid}
-use Rattle.model.specs.Refusals.{◌▸◌, zero_domain, unused_zero, free_of, clear, domain_verdict, domains_verdict, cell, from, to, is_channel, channels_good}
-use Rattle.model.specs.declared.map.Region.{Region}
+use Rattle.model.specs.Refusals.{◌▸◌, domain_verdict, domains_verdict, cell, from, to, is_channel, channels_good}
 use Rattle.model.specs.declared.map.Map.{Map}
 
 -- a mark that is no channel, as the code tests for it

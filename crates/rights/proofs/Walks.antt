@@ -1,14 +1,13 @@
 -- What the code walks, beside the definitions' recursions.
 -- Assumes nothing.
-use Rattle.std.specs.Prelude.{ℕ, zero, suc, ◌+◌, ◌-◌, ◌≤◌, ◌<◌, ◌≡◌, refl, Bool, true, false, ◌&&◌, ◌||◌, not, length, take, drop, leb, ltb}
+use Rattle.std.specs.Prelude.{ℕ, zero, suc, ◌≡◌, refl, Bool, true, false, ◌&&◌, ◌||◌, not, length, take, drop, ltb}
 use Rattle.std.specs.List.{list_all}
-use Rattle.std.proofs.Common.{arith, sym, ◌∙◌, ap}
-use borrow.Author.Tests.{leb-true, leb-false, le-ltb, lt-ltb}
-use Rattle.model.proofs.LoopLaws.{back}
+use Rattle.std.proofs.Common.{sym, ◌∙◌, ap}
+use borrow.Author.Tests.{le-ltb, lt-ltb}
 use Rattle.model.proofs.BasicsLaws.{by_bool}
 use Rattle.model.proofs.WalkLaws.{each_place, walked, walked_front}
 use Rattle.model.specs.Map.{most, absent, filled, overlaps, nth}
-use Rattle.model.specs.Refusals.{◌▸◌, zero_domain, unused_zero, free_of, clear, domain_verdict, domains_verdict, cell, from, to, is_channel, channels_good}
+use Rattle.model.specs.Refusals.{zero_domain, unused_zero, free_of, clear}
 use Rattle.model.specs.declared.map.Region.{Region}
 use Rattle.model.specs.declared.map.Map.{Map}
 
