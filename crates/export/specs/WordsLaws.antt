@@ -6,16 +6,17 @@
 --     chunk             a word of a chunk is a word of the block that was cut
 --     alike_pointwise   `==` of two blocks of n words
 -- Assumes nothing.
-use Rattle.std.specs.Prelude.{ℕ, zero, suc, ◌+◌, ◌*◌, ◌<◌, ◌≤◌, ◌≡◌, refl, ◌&&◌, List, [], ◌∷◌, eqb, nat_eq, length, get_or, drop}
+use Rattle.std.specs.Prelude.{ℕ, zero, suc, ◌+◌, ◌*◌, ◌<◌, ◌≡◌, refl, ◌&&◌, List, [], ◌∷◌, eqb, nat_eq, length, get_or, drop}
 use Rattle.std.specs.List.{flat_map}
-use Rattle.std.specs.Array.{IsFromFnResultFrom, IsFromFnResult}
+use Rattle.std.specs.Array.{IsFromFnResult}
 use Rattle.std.specs.Fn.{Called}
 use Rattle.std.specs.Simd.{first_chunks}
 use Rattle.std.specs.Cmp.Lexicographic.{pointwise}
-use Rattle.std.proofs.Common.{sym, subst, ap, ◌∙◌, append_assoc, mul-suc, arith}
+use Rattle.std.proofs.Common.{sym, ap, ◌∙◌, append_assoc, mul-suc, arith}
 use Rattle.std.proofs.lemmas.List.{append-nil, get_or-drop, get_or-take}
 use denote.Param.Members.{Mut}
 use Rattle.model.proofs.BasicsLaws.{and_swap}
+use Rattle.model.proofs.MadeLaws.{made}
 use Rattle.export.specs.Words.{alike, eight, parts}
 
 pub eight_again : {A : Type 0} (xs : List A) (d : A) → length xs ≡ 8 → eight (λ i. get_or xs i d) ≡ xs
@@ -43,26 +44,12 @@ eight_same f g e =
       e 7 (omega arith),
     )
 
--- calls of a closure that no call changes: h is what each gives
-module _ {F B : Type 0} {g : Mut F (ℕ × Unit {0}) B} {f : F} (h : ℕ → B)
-    (call : (i : ℕ) (y : B) (q : F) → i < 8 → Called g f (i, tt) y q → (q ≡ f) × (y ≡ h i)) where
-  made_from :
-      (ys : List B) (i n : ℕ) (p : F) → i + n ≤ 8 → p ≡ f → IsFromFnResultFrom g p ys i n
-      → (k : ℕ) (d : B) → k < n → get_or ys (i + k) d ≡ h (i + k)
-  made_from ys i zero p b e r k d l = absurd (omega arith)
-  made_from ys i (suc n) p b e (q, y, x, c, r) zero d l =
-      let t = call i y q (omega arith) (subst (λ p. Called g p (i, tt) y q) e c) in
-      let z : i + 0 ≡ i = omega arith in
-      rw z (x.1 d ∙ t.1)
-  made_from ys i (suc n) p b e (q, y, x, c, r) (suc k) d l =
-      let t = call i y q (omega arith) (subst (λ p. Called g p (i, tt) y q) e c) in
-      let z : i + suc k ≡ (i + 1) + k = omega arith in
-      rw z (made_from ys (i + 1) n q (omega arith) t.0 r k d (omega arith))
-
-  -- d stands past the array's end
-  pub eight_made : (d : B) {ys : List B} → IsFromFnResult g f ys 8 → ys ≡ eight h
-  eight_made d {ys = ys} r =
-      sym (eight_again ys d r.long) ∙ eight_same _ _ (λ i l. made_from ys 0 8 f (omega arith) refl r.each i d l)
+-- calls of a closure that no call changes: h is what each gives; d stands past the array's end
+pub eight_made :
+    {F B : Type 0} {g : Mut F (ℕ × Unit {0}) B} {f : F} (h : ℕ → B)
+    → ((i : ℕ) (y : B) (q : F) → i < 8 → Called g f (i, tt) y q → (q ≡ f) × (y ≡ h i))
+    → (d : B) {ys : List B} → IsFromFnResult g f ys 8 → ys ≡ eight h
+eight_made h call d {ys = ys} r = sym (eight_again ys d r.long) ∙ eight_same _ _ (λ i l. made 8 h call r i d l)
 
 pub chunk :
     (n k : ℕ) (xs : List ℕ) (i j : ℕ) → i < k → j < n

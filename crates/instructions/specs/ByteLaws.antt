@@ -1,25 +1,12 @@
 -- Bytes read, and set, one after the other.
---     from_fn_each   what a closure that stays as it was has made, place by place
 --     peek_drop      n bytes that are those of the rest from a on
 --     sets_more      one byte more is set
 -- Assumes nothing.
 use Rattle.std.specs.Prelude.{◌≡◌, ℕ, zero, suc, ◌+◌, ◌<◌, List, [], ◌∷◌, length, take, drop, get_or, set, refl}
-use Rattle.std.specs.Fn.{Called, Mut}
-use Rattle.std.specs.Array.{IsFromFnResultFrom}
-use Rattle.std.proofs.Common.{ap, subst, ◌∙◌, arith, add-zero}
+use Rattle.std.proofs.Common.{ap, ◌∙◌, arith, add-zero}
 use Rattle.std.proofs.lemmas.List.{get_or-drop}
 use Rattle.std.proofs.lemmas.List.Edits.{sets}
 use Rattle.model.specs.Instructions.{peek}
-
-module _ {F : Type 0} {g : Mut F (ℕ × Unit {0}) ℕ} (f : F) (h : ℕ → ℕ)
-    (made : (k y : ℕ) (q : F) → Called g f (k, tt) y q → (q ≡ f) × (y ≡ h k)) where
-  pub from_fn_each : (ys : List ℕ) (i n k : ℕ) → IsFromFnResultFrom g f ys i n → k < n → get_or ys (i + k) 0 ≡ h (i + k)
-  from_fn_each ys i zero k d l = absurd (omega arith)
-  from_fn_each ys i (suc n) zero d l = rw add-zero (d.2.1 0 ∙ (made i d.1 d.0 d.3).1)
-  from_fn_each ys i (suc n) (suc k) d l =
-      let rest = subst (λ q. IsFromFnResultFrom g q ys (i + 1) n) (made i d.1 d.0 d.3).0 d.4 in
-      let on : i + 1 + k ≡ i + suc k = omega arith in
-      rw on at (from_fn_each ys (i + 1) n k rest (omega arith))
 
 peek_each :
     (memory bs : List ℕ) (a n : ℕ) → length bs ≡ n → ((k : ℕ) → k < n → get_or bs k 0 ≡ get_or memory (a + k) 0)

@@ -1,6 +1,6 @@
 -- The calls on a node that was tested.
 -- Assumes nothing.
-use Rattle.std.specs.Prelude.{if◌then◌else◌, Ok, Err}
+use Rattle.std.specs.Prelude.{if◌then◌else◌, Ok}
 use Prim.Native.Nat.{ℕ, ◌-◌, ◌≤◌}
 use mathlib.Core.Path.{◌≡◌, sym, ap, ◌∙◌}
 use mathlib.Core.List.{List}
@@ -17,8 +17,6 @@ use Rattle.model.specs.declared.map.Map.{Map}
 use Rattle.model.specs.declared.state.State.{State}
 use Rattle.model.specs.declared.event.Answer.{Answer}
 use Rattle.model.specs.declared.event.Event.{Event}
-use Rattle.model.specs.declared.refusal.Refusal.{Refusal}
-use Rattle.model.specs.declared.call.Stop.{Stop}
 use Rattle.model.specs.Answers.{Verdict}
 use Rattle.model.specs.declared.call.Played.{Played}
 use Rattle.model.specs.declared.call.Ending.{Ending}

@@ -1,9 +1,9 @@
 -- What an accepted view stands on.
 -- Assumes nothing.
-use Rattle.std.specs.Prelude.{Ok, Err}
+use Rattle.std.specs.Prelude.{Ok}
 use Prim.Native.Nat.{ℕ, ◌-◌, ◌≤◌, ◌<◌}
-use mathlib.Core.Path.{◌≡◌, refl, sym, ◌∙◌}
-use mathlib.Core.List.{List, []}
+use mathlib.Core.Path.{◌≡◌, sym, ◌∙◌}
+use mathlib.Core.List.{List}
 use native.Mathlib.Omega.{arith}
 use lib.Dec.{leb}
 use lib.ListN.{length, take, drop}
@@ -13,15 +13,11 @@ use Rattle.model.specs.Map.{most, Grid, is_domain, domain}
 use Rattle.model.proofs.MapLaws.{in_range}
 use Rattle.model.specs.Refusals.{check, ◌▸◌, accepts}
 use Rattle.model.proofs.RefusalsLaws.{check_true, then_left, then_right, acceptable, placed}
-use Rattle.model.specs.States.{no_state, start, well_formed}
-use Rattle.model.specs.Calls.{as_long, lent_verdict, node_verdict, view, starter}
-use Rattle.model.proofs.TestLaws.{then_pass, then_stop}
+use Rattle.model.specs.Calls.{as_long, lent_verdict, view}
 use Rattle.model.specs.declared.map.Region.{Region}
 use Rattle.model.specs.declared.map.Map.{Map}
-use Rattle.model.specs.declared.state.State.{State}
 use Rattle.model.specs.declared.refusal.Refusal.{Refusal}
 use Rattle.model.specs.Answers.{Verdict}
-use Rattle.model.specs.declared.call.Started.{Started}
 
 -- ---- the view: an accepted call names one of the map's eight entries, and the entry's data lies in the lent memory
 

@@ -3,14 +3,13 @@
 --     unchanged         a call that refuses gives back what it was given, with counts 0; start, the reader and the view as 01 says for them
 --     prints_refusal    the same of the text: one line, and the memory as it came
 -- Assumes nothing.
-use Rattle.std.specs.Prelude.{ℕ, zero, suc, ◌≡◌, refl, Bool, true, false, List, [], ◌++◌, eqb, length, Ok, Err}
+use Rattle.std.specs.Prelude.{ℕ, ◌≡◌, refl, Bool, false, List, [], ◌++◌, length, Ok, Err}
 use Rattle.std.proofs.Common.{sym, ap, ◌∙◌}
-use Rattle.model.proofs.BasicsLaws.{by_bool}
 use Rattle.model.specs.Map.{Grid, domain, may}
 use Rattle.model.specs.Refusals.{accepts}
 use Rattle.model.specs.Sheet.{Found, sheet_bytes, sheet_read}
 use Rattle.model.specs.States.{start}
-use Rattle.model.specs.Events.{Outcome, step, event, event_read, Run, run, Trace, trace_of, Batch, batch}
+use Rattle.model.specs.Events.{Outcome, event, event_read, Run, run, Trace, trace_of, Batch, batch}
 use Rattle.model.specs.Calls.{left, named, lent_verdict, node_verdict, permission, question, part, view, reported, reader, written, writer, started, starter, stepped, stepper, played, player, batched, batcher}
 use Rattle.model.specs.Program.{words, decimal, refusal_line, refusal_at_line, prints, of_sheet, transcript}
 use Rattle.model.specs.declared.map.Map.{Map}

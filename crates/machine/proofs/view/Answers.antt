@@ -1,6 +1,4 @@
 -- An accepted call's part lies in the lent memory.
-use Rattle.std.proofs.Common.{rules}
-use Rattle.model.specs.Calls.{view}
 use Rattle.machine.proofs.Exits.{view_part, view_bounds}
 use Rattle.machine.proofs.view.Goals as goal
 
