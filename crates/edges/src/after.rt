@@ -3,11 +3,12 @@ use crate::answer::DomainOf;
 use crate::case_l;
 use crate::node::{ROOM, TRACE, transcript};
 use crate::numbers::bytes;
+use crate::say::Out;
 use crate::table::Pieces;
 use model::call::Played;
 use model::state::State;
-use std::io;
-use std::io::Write;
+use std::fmt;
+use std::fmt::Write;
 
 // Case L's state at its start, with another active domain.
 pub fn with_active(active: u8) -> State {
@@ -24,7 +25,7 @@ pub fn play_on(s: State, memory: &mut [u8], trace: &[u8]) -> Played {
 }
 
 // The four bytes from an address on, where there is one.
-fn bytes_from(out: &mut impl Write, memory: &[u8], case: Pieces<'_>) -> io::Result<()> {
+fn bytes_from(out: &mut Out, memory: &[u8], case: Pieces<'_>) -> fmt::Result {
     if case.text(5).is_empty() {
         return Ok(());
     }
@@ -37,7 +38,7 @@ fn bytes_from(out: &mut impl Write, memory: &[u8], case: Pieces<'_>) -> io::Resu
 }
 
 // NAME: play;PROGRAM;PROGRAM;TRACE;D;AT
-pub fn play(out: &mut impl Write, case: Pieces<'_>) -> io::Result<()> {
+pub fn play(out: &mut Out, case: Pieces<'_>) -> fmt::Result {
     let mut memory = case_l::memory(case);
     let mut copy = memory;
     let sheet = bytes::<ROOM>(case_l::SHEET);

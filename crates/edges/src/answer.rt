@@ -1,4 +1,4 @@
-// An answer, a status and a box in words.
+// An answer, a status and a box in words. What follows something else begins with its comma, so that it is one piece with it.
 use crate::say::Said;
 use model::event::Answer;
 use model::state::{Context, Mailbox, Reason, State, Status};
@@ -21,12 +21,12 @@ impl fmt::Display for Said<Answer> {
 impl fmt::Display for Said<Reason> {
     fn fmt<W: fmt::Write>(&self, f: &mut fmt::Formatter<W>) -> fmt::Result {
         match self.0 {
-            Reason::Fetch(a) => write!(f, "fetch {a}"),
-            Reason::Read(a) => write!(f, "read {a}"),
-            Reason::Write(a) => write!(f, "write {a}"),
-            Reason::Kind(k) => write!(f, "kind {k}"),
-            Reason::Register(r) => write!(f, "register {r}"),
-            Reason::Channel(d) => write!(f, "channel {d}"),
+            Reason::Fetch(a) => write!(f, ", faulted fetch {a}"),
+            Reason::Read(a) => write!(f, ", faulted read {a}"),
+            Reason::Write(a) => write!(f, ", faulted write {a}"),
+            Reason::Kind(k) => write!(f, ", faulted kind {k}"),
+            Reason::Register(r) => write!(f, ", faulted register {r}"),
+            Reason::Channel(d) => write!(f, ", faulted channel {d}"),
         }
     }
 }
@@ -34,10 +34,10 @@ impl fmt::Display for Said<Reason> {
 impl fmt::Display for Said<Status> {
     fn fmt<W: fmt::Write>(&self, f: &mut fmt::Formatter<W>) -> fmt::Result {
         match self.0 {
-            Status::Ready => f.write_str("ready"),
-            Status::Waiting => f.write_str("waiting"),
-            Status::Halted => f.write_str("halted"),
-            Status::Faulted(r) => write!(f, "faulted {}", Said(r)),
+            Status::Ready => f.write_str(", ready"),
+            Status::Waiting => f.write_str(", waiting"),
+            Status::Halted => f.write_str(", halted"),
+            Status::Faulted(r) => Said(r).fmt(f),
         }
     }
 }
@@ -46,9 +46,9 @@ impl fmt::Display for Said<Mailbox> {
     fn fmt<W: fmt::Write>(&self, f: &mut fmt::Formatter<W>) -> fmt::Result {
         let Mailbox { full, word, sender } = self.0;
         if full {
-            write!(f, "box {word} from {sender}")
+            write!(f, ", box {word} from {sender}")
         } else {
-            f.write_str("box empty")
+            f.write_str(", box empty")
         }
     }
 }
@@ -61,11 +61,11 @@ impl fmt::Display for Said<Context> {
             status,
             mailbox,
         } = self.0;
-        write!(f, "at {counter}, registers")?;
+        write!(f, " at {counter}, registers")?;
         for r in registers {
             write!(f, " {r}")?;
         }
-        write!(f, ", {}, {}", Said(status), Said(mailbox))
+        write!(f, "{}{}", Said(status), Said(mailbox))
     }
 }
 
@@ -77,7 +77,7 @@ impl fmt::Display for DomainOf {
     fn fmt<W: fmt::Write>(&self, f: &mut fmt::Formatter<W>) -> fmt::Result {
         let d = self.1;
         match self.0.contexts.get(usize::from(d).wrapping_sub(1)) {
-            Some(c) => write!(f, ", domain {d} {}", Said(*c)),
+            Some(c) => write!(f, ", domain {d}{}", Said(*c)),
             None => Ok(()),
         }
     }

@@ -1,11 +1,11 @@
 // "A batch takes a limit of steps and stops early when idle", by the call itself.
 use crate::after::{play_on, with_active};
 use crate::case_l;
-use crate::say::Said;
+use crate::say::{Out, Said};
 use crate::table::Pieces;
 use model::call::Ending;
-use std::io::Write;
-use std::{fmt, io};
+use std::fmt;
+use std::fmt::Write;
 
 impl fmt::Display for Said<Ending> {
     fn fmt<W: fmt::Write>(&self, f: &mut fmt::Formatter<W>) -> fmt::Result {
@@ -17,7 +17,7 @@ impl fmt::Display for Said<Ending> {
 }
 
 // NAME: Batch;PROGRAM;PROGRAM;TRACE;ACTIVE;LENGTH;N
-pub fn batch(out: &mut impl Write, case: Pieces<'_>) -> io::Result<()> {
+pub fn batch(out: &mut Out, case: Pieces<'_>) -> fmt::Result {
     let mut space = case_l::memory(case);
     let Some(memory) = space.get_mut(..case.number(5)) else {
         return Ok(());

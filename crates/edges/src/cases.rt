@@ -3,16 +3,16 @@ use crate::batches::batch;
 use crate::eight::largest;
 use crate::events::{call, event};
 use crate::questions::may;
+use crate::say::Out;
 use crate::starts::start;
 use crate::table::Pieces;
 use crate::views::view;
 use crate::writers::{identical, read, write};
 use crate::{after, node, plays};
-use std::io;
-use std::io::Write;
+use std::fmt;
 
 // A letter and no enum of the verbs: the codes are standard input's, which stays, and each is met here alone.
-fn outcome(out: &mut impl Write, case: Pieces<'_>) -> io::Result<()> {
+fn outcome(out: &mut Out, case: Pieces<'_>) -> fmt::Result {
     match case.text(0).first() {
         Some(b'B') => batch(out, case),
         Some(b'C') => call(out, case),
@@ -33,12 +33,13 @@ fn outcome(out: &mut impl Write, case: Pieces<'_>) -> io::Result<()> {
 }
 
 // NAME: VERB;FIELD;FIELD ..
-pub fn tell(out: &mut impl Write, line: &[u8]) -> io::Result<()> {
+pub fn tell(out: &mut Out, line: &[u8]) {
     let mut parts = line.splitn(2, |b| *b == b':');
     let name = parts.next().unwrap_or_default();
     let fields = parts.next().and_then(|rest| rest.get(1..));
-    out.write_all(name)?;
-    out.write_all(b": ")?;
-    outcome(out, Pieces::fields(fields.unwrap_or_default()))?;
-    out.write_all(b"\n")
+    out.bytes(name);
+    out.bytes(b": ");
+    // No piece fails.
+    let _ = outcome(out, Pieces::fields(fields.unwrap_or_default()));
+    out.bytes(b"\n");
 }

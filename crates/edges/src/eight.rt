@@ -2,13 +2,13 @@
 use crate::maps::map_of;
 use crate::node::ROOM;
 use crate::numbers::put;
-use crate::say::Said;
+use crate::say::{Out, Said};
 use crate::table::Pieces;
 use model::MOST;
 use model::call::Writing;
 use model::map::Map;
-use std::io::Write;
-use std::{array, io};
+use std::fmt::Write;
+use std::{array, fmt};
 
 // From the count on.
 fn map() -> Map {
@@ -43,7 +43,7 @@ pub fn put_sheet(sheet: &mut [u8], all: &[u8]) {
 }
 
 // NAME: Largest;LENGTH
-pub fn largest(out: &mut impl Write, case: Pieces<'_>) -> io::Result<()> {
+pub fn largest(out: &mut Out, case: Pieces<'_>) -> fmt::Result {
     let mut space = [0; ROOM];
     match space.get_mut(..case.number(1)) {
         Some(buffer) => write!(out, "{}", Said(put_largest(buffer))),

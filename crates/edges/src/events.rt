@@ -4,14 +4,14 @@ use crate::after::with_active;
 use crate::case_l;
 use crate::contexts::state;
 use crate::maps::{grid, map};
-use crate::say::Said;
+use crate::say::{Out, Said};
 use crate::table::Pieces;
 use model::call::Stepped;
 use model::event::Event;
-use std::io;
-use std::io::Write;
+use std::fmt;
+use std::fmt::Write;
 
-fn told(out: &mut impl Write, s: Stepped) -> io::Result<()> {
+fn told(out: &mut Out, s: Stepped) -> fmt::Result {
     write!(out, "{}, active {}", Said(s.reply), s.state.active)
 }
 
@@ -25,7 +25,7 @@ fn event_of(numbers: Pieces<'_>) -> Event {
 }
 
 // NAME: Event;MAP;ACTIVE;LENGTH;EVENT
-pub fn event(out: &mut impl Write, case: Pieces<'_>) -> io::Result<()> {
+pub fn event(out: &mut Out, case: Pieces<'_>) -> fmt::Result {
     let mut space = [0; 256];
     let Some(memory) = space.get_mut(..case.number(5)) else {
         return Ok(());
@@ -37,7 +37,7 @@ pub fn event(out: &mut impl Write, case: Pieces<'_>) -> io::Result<()> {
 
 // The call that is for an event's kind alone: a match on the enum's own cases.
 // NAME: Call;EVENT;ACTIVE;DOMAIN;DOMAIN;DOMAIN
-pub fn call(out: &mut impl Write, case: Pieces<'_>) -> io::Result<()> {
+pub fn call(out: &mut Out, case: Pieces<'_>) -> fmt::Result {
     let (m, g, s) = (case_l::map(), case_l::grid(), state(case));
     let mut memory = [0; 256];
     let stepped = match event_of(case.numbers(1)) {

@@ -1,9 +1,9 @@
 // A case by the program's lines: a sheet, a memory and a trace. What a sheet or a memory is edited by, and a trace, are numbers in decimal.
 use crate::numbers::{bytes, put};
+use crate::say::Out;
 use crate::table::Pieces;
 use crate::{case_l, eight};
-use std::io;
-use std::io::Write;
+use std::fmt;
 
 // A byte more than the largest sheet has.
 pub const ROOM: usize = 352;
@@ -12,21 +12,16 @@ pub const ROOM: usize = 352;
 pub const TRACE: usize = 64;
 
 // What the program prints, with a comma between two lines.
-pub fn transcript(
-    out: &mut impl Write,
-    sheet: &[u8],
-    memory: &mut [u8],
-    trace: &[u8],
-) -> io::Result<()> {
+pub fn transcript(out: &mut Out, sheet: &[u8], memory: &mut [u8], trace: &[u8]) -> fmt::Result {
     let trace = bytes::<TRACE>(trace);
     let mut room = [0; 1024];
     let n = lines::transcript(sheet, memory, trace.as_slice(), &mut room);
     let text = room.get(..n).unwrap_or_default();
     for (i, line) in text.split_inclusive(|b| *b == b'\n').enumerate() {
         if 0 < i {
-            out.write_all(b", ")?;
+            out.bytes(b", ");
         }
-        out.write_all(line.strip_suffix(b"\n").unwrap_or(line))?;
+        out.bytes(line.strip_suffix(b"\n").unwrap_or(line));
     }
     Ok(())
 }
@@ -38,7 +33,7 @@ fn edited<'a>(case: Pieces<'_>, sheet: &'a mut [u8]) -> &'a [u8] {
 }
 
 // NAME: sheet;AT;BYTES;CUT;LENGTH;TRACE;ENTRY;PROGRAM
-pub fn sheet(out: &mut impl Write, case: Pieces<'_>) -> io::Result<()> {
+pub fn sheet(out: &mut Out, case: Pieces<'_>) -> fmt::Result {
     let mut sheet = [0; ROOM];
     put(&mut sheet, 0, case_l::SHEET);
     let mut space = [0; 257];
@@ -50,7 +45,7 @@ pub fn sheet(out: &mut impl Write, case: Pieces<'_>) -> io::Result<()> {
 }
 
 // NAME: eight;AT;BYTES;CUT;TRACE;ALL
-pub fn eight(out: &mut impl Write, case: Pieces<'_>) -> io::Result<()> {
+pub fn eight(out: &mut Out, case: Pieces<'_>) -> fmt::Result {
     let mut sheet = [0; ROOM];
     eight::put_sheet(&mut sheet, case.text(5));
     transcript(out, edited(case, &mut sheet), &mut [0; 256], case.text(4))

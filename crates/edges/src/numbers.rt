@@ -1,5 +1,4 @@
 // The table's numbers, in decimal. A text with no number is 0.
-use crate::node::ROOM;
 use arrayvec::ArrayVec;
 
 // A number with one more digit. A number that ends is followed by 0, and one that grows past 64 bits stays: `parse` would refuse both.
@@ -46,21 +45,38 @@ impl Low for usize {
     }
 }
 
-// Numbers as bytes, the first N of them. A byte below '0' stands between two of them, so that two such bytes have a 0 between them.
+// Gives numbers as bytes, in their order. A byte below '0' stands between two of them, so that two such bytes have a 0 between them.
+fn each<F: FnMut(u8)>(text: &[u8], mut give: F)
+    requires { F.IsAlwaysCallable give }
+{
+    let mut n = 0;
+    for &b in text {
+        if b < b'0' {
+            give(Low::low(n));
+        }
+        n = digit(n, b);
+    }
+    if !text.is_empty() {
+        give(Low::low(n));
+    }
+}
+
+// The first N numbers as bytes.
 pub fn bytes<const N: usize>(text: &[u8]) -> ArrayVec<u8, N> {
     let mut bytes = ArrayVec::new();
-    if !text.is_empty() {
-        for n in text.split(|b| *b < b'0') {
-            let _ = bytes.try_push(Low::low(number(n)));
-        }
-    }
+    each(text, |b| {
+        let _ = bytes.try_push(b);
+    });
     bytes
 }
 
-// Numbers laid into a buffer of at most ROOM bytes from a place on; what has no room is left out, so that no caller has to have measured.
+// Numbers laid into a buffer from a place on; what has no room is left out, so that no caller has to have measured.
 // The offset stands beside the buffer: a part would be `get_mut(at..).unwrap_or_default()` at each of four calls, which is no plainer.
 pub fn put(to: &mut [u8], at: usize, text: &[u8]) {
-    for (place, b) in to.iter_mut().skip(at).zip(bytes::<ROOM>(text).as_slice()) {
-        *place = *b;
-    }
+    let mut places = to.iter_mut().skip(at);
+    each(text, |b| {
+        if let Some(place) = places.next() {
+            *place = b;
+        }
+    });
 }

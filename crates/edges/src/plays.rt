@@ -1,10 +1,10 @@
 // "Playing a trace stops at its first broken record with 11 or 12, its offset and the events done", by the call itself.
 use crate::after::{play_on, with_active};
-use crate::say::Said;
+use crate::say::{Out, Said};
 use crate::table::Pieces;
 use model::call::Stop;
-use std::io::Write;
-use std::{fmt, io};
+use std::fmt;
+use std::fmt::Write;
 
 impl fmt::Display for Said<Stop> {
     fn fmt<W: fmt::Write>(&self, f: &mut fmt::Formatter<W>) -> fmt::Result {
@@ -16,7 +16,7 @@ impl fmt::Display for Said<Stop> {
 }
 
 // NAME: Play;ACTIVE;LENGTH;TRACE
-pub fn play(out: &mut impl Write, case: Pieces<'_>) -> io::Result<()> {
+pub fn play(out: &mut Out, case: Pieces<'_>) -> fmt::Result {
     let mut space = [0; 256];
     let Some(memory) = space.get_mut(..case.number(2)) else {
         return Ok(());

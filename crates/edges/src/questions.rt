@@ -1,10 +1,10 @@
 // "A public question asks whether domain d may read, write or fetch address a: yes, no, or a refusal."
 use crate::maps::{grid, map};
-use crate::say::Said;
+use crate::say::{Out, Said};
 use crate::table::Pieces;
 use model::map::Access;
-use std::io::Write;
-use std::{fmt, io};
+use std::fmt;
+use std::fmt::Write;
 
 // By its first letter: the codes are standard input's, which stays.
 fn access(word: &[u8]) -> Access {
@@ -23,7 +23,7 @@ impl fmt::Display for Said<bool> {
 }
 
 // NAME: May;MAP;D;ACCESS;A
-pub fn may(out: &mut impl Write, case: Pieces<'_>) -> io::Result<()> {
+pub fn may(out: &mut Out, case: Pieces<'_>) -> fmt::Result {
     let answer = rights::question(
         map(case),
         grid(case),

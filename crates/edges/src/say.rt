@@ -1,6 +1,24 @@
-// The library's values in words.
+// What is written to standard output, piece by piece, and the library's values in words.
 use model::refusal::{Refusal, RefusedAt};
 use std::fmt;
+
+// Standard output. A piece that cannot be written is left out, and the next one is tried, so no piece fails.
+#[derive(Drop)]
+pub struct Out;
+
+impl Out {
+    // A piece that need not be text.
+    pub fn bytes(&mut self, piece: &[u8]) {
+        io::write_all(1, piece);
+    }
+}
+
+impl fmt::Write for Out {
+    fn write_str(&mut self, piece: &str) -> fmt::Result {
+        self.bytes(piece.as_bytes());
+        Ok(())
+    }
+}
 
 #[derive(Clone, Copy)]
 pub struct Said<T>(pub T);

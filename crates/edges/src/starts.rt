@@ -2,13 +2,13 @@
 // then 7)": at start. "a refused start gives active 0 and every context zero and halted".
 use crate::answer::DomainOf;
 use crate::maps::{grid, map};
-use crate::say::Said;
+use crate::say::{Out, Said};
 use crate::table::Pieces;
-use std::io;
-use std::io::Write;
+use std::fmt;
+use std::fmt::Write;
 
 // NAME: Start;MAP;D
-pub fn start(out: &mut impl Write, case: Pieces<'_>) -> io::Result<()> {
+pub fn start(out: &mut Out, case: Pieces<'_>) -> fmt::Result {
     let started = machine::start(map(case), grid(case));
     let verdict = Said(started.verdict.map(|()| "accepted"));
     match case.number(4) {

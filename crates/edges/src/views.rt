@@ -1,13 +1,13 @@
 // "A view returns the data sub-region of domain d as that part of the caller's memory, not a copy; for any refusal it returns the empty part at
 // the front, and a companion call gives the number."
 use crate::maps::{grid, map};
-use crate::say::Said;
+use crate::say::{Out, Said};
 use crate::table::Pieces;
-use std::io;
-use std::io::Write;
+use std::fmt;
+use std::fmt::Write;
 
 // NAME: View;MAP;D;LENGTH, where the memory has 1 at 64, 2 at 95, 3 at 128 and 4 at 159.
-pub fn view(out: &mut impl Write, case: Pieces<'_>) -> io::Result<()> {
+pub fn view(out: &mut Out, case: Pieces<'_>) -> fmt::Result {
     let (m, g, d) = (map(case), grid(case), case.number(4));
     let mut memory = [0; 256];
     memory[64] = 1;

@@ -3,11 +3,11 @@ use crate::case_l;
 use crate::maps::{grid, map};
 use crate::node::ROOM;
 use crate::numbers::bytes;
-use crate::say::Said;
+use crate::say::{Out, Said};
 use crate::table::Pieces;
 use model::MOST;
-use std::io::Write;
-use std::{fmt, io};
+use std::fmt;
+use std::fmt::Write;
 
 // How many bytes a sheet's writer set.
 impl fmt::Display for Said<usize> {
@@ -18,7 +18,7 @@ impl fmt::Display for Said<usize> {
 
 // A buffer of LENGTH bytes, each 255 before, in front of more of them.
 // NAME: Write;MAP;LENGTH
-pub fn write(out: &mut impl Write, case: Pieces<'_>) -> io::Result<()> {
+pub fn write(out: &mut Out, case: Pieces<'_>) -> fmt::Result {
     let mut space = [255; ROOM];
     if let Some(buffer) = space.get_mut(..case.number(4)) {
         write!(out, "{}", Said(sheet::write(map(case), grid(case), buffer)))?;
@@ -31,7 +31,7 @@ pub fn write(out: &mut impl Write, case: Pieces<'_>) -> io::Result<()> {
 
 // The bytes that the writer sets are those of Case L's sheet.
 // NAME: Identical
-pub fn identical(out: &mut impl Write) -> io::Result<()> {
+pub fn identical(out: &mut Out) -> fmt::Result {
     let mut buffer = [0; 60];
     let writing = Said(sheet::write(case_l::map(), case_l::grid(), &mut buffer));
     let as_read = if buffer.as_slice() == bytes::<60>(case_l::SHEET).as_slice() {
@@ -44,7 +44,7 @@ pub fn identical(out: &mut impl Write) -> io::Result<()> {
 
 // "On refusal the map is all zero and the grid all no." The grid was all yes before.
 // NAME: Read;CUT
-pub fn read(out: &mut impl Write, case: Pieces<'_>) -> io::Result<()> {
+pub fn read(out: &mut Out, case: Pieces<'_>) -> fmt::Result {
     let mut g = [[true; MOST]; MOST];
     let bytes = bytes::<60>(case_l::SHEET);
     let cut = bytes.as_slice().get(..case.number(1)).unwrap_or_default();
@@ -60,7 +60,7 @@ pub fn read(out: &mut impl Write, case: Pieces<'_>) -> io::Result<()> {
         first.entry
     )?;
     for mark in [g[0][0], g[0][1], g[1][0], g[7][7]] {
-        write!(out, " {}", Said(mark))?;
+        out.write_str(if mark { " yes" } else { " no" })?;
     }
     Ok(())
 }
