@@ -67,16 +67,16 @@ fn free_of_first(r: Region, domains: &[Domain], i: usize) -> bool
 
 // r shares no address with the kernel, nor with one of the first i domains.
 #[tactic(auto, using(crate::proofs::Walks::clear_walk))]
-fn clear(m: Map, r: Region, i: usize) -> bool
-    ensures { result ≡ clear m r i }
+fn clear(m: &Map, r: Region, i: usize) -> bool
+    ensures { result ≡ clear m.now r i }
 {
     free_of_first(r, &m.domains, i) & !overlaps(r, m.kernel)
 }
 
-// 4, 5 and 6 for a domain that stands after the first i.
+// 4, 5 and 6 for a domain that stands after the first i. The map is lent: a copy for each domain would cost as much as the tests.
 #[tactic(auto, unfolding(model::specs::Refusals::domain_verdict))]
-pub fn domain_verdict(m: Map, i: usize, d: Domain) -> Verdict
-    ensures { result ≡ domain_verdict m i d }
+fn stands(m: &Map, i: usize, d: Domain) -> Verdict
+    ensures { result ≡ domain_verdict m.now i d }
 {
     check(within(m.length, d.code), Refusal::Bounds)?;
     check(within(m.length, d.data), Refusal::Bounds)?;
@@ -88,9 +88,15 @@ pub fn domain_verdict(m: Map, i: usize, d: Domain) -> Verdict
     )
 }
 
+pub fn domain_verdict(m: Map, i: usize, d: Domain) -> Verdict
+    ensures { result ≡ domain_verdict m i d }
+{
+    stands(&m, i, d)
+}
+
 // A place past the array's end reads as a domain that is all zero, so that no caller has to have counted.
-fn nth(m: Map, i: usize) -> Domain
-    ensures { result ≡ nth m i }
+fn nth(m: &Map, i: usize) -> Domain
+    ensures { result ≡ nth m.now i }
 {
     m.domains.get(i).copied().unwrap_or_default()
 }
@@ -100,7 +106,7 @@ pub fn domains_verdict(m: Map) -> Verdict
     ensures { result ≡ domains_verdict m 0 m.count }
 {
     for i in 0..usize::from(m.count) {
-        domain_verdict(m, i, nth(m, i))?;
+        stands(&m, i, nth(&m, i))?;
     }
     Ok(())
 }

@@ -4,8 +4,8 @@ use Rattle.model.specs.Refusals.{domains_verdict}
 use Rattle.rights.proofs.Turns.{domains_turn}
 use Rattle.rights.proofs.domain.domains_verdict.Goals as goal
 
-pub returns-in_err-domain_verdict : goal.returns-in_err-domain_verdict
-returns-in_err-domain_verdict c =
+pub returns-in_err-stands : goal.returns-in_err-stands
+returns-in_err-stands c =
     let turn = domains_turn c.args.m c.loop-i.i (c.args.m.count - c.loop-i.i) (omega arith) in
     search (rules, turn, c.loop-i.invariant)
 
