@@ -47,7 +47,7 @@ pub fn event(m: Map, g: [[bool; MOST]; MOST], s: State, memory: &mut [u8], e: Ev
 {
     match tested(m, g, s, memory) {
         Ok(node) => {
-            let Happened { answer, state } = happen(node, memory, e);
+            let Happened { answer, state } = happen(&node, memory, e);
             Stepped {
                 reply: Ok(answer),
                 state,

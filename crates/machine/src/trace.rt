@@ -42,7 +42,7 @@ pub fn play_on(start: Node, memory: &mut [u8], trace: &[u8]) -> Played
             };
         };
         let node = Node { map, grid, state };
-        state = happen(node, memory, e).state;
+        state = happen(&node, memory, e).state;
         at += n;
         events += 1;
     }

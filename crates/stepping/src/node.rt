@@ -31,9 +31,9 @@ pub struct Node {
 
 impl Node {
     // Stretch after stretch, until the limit is spent or the node is idle. No `for`: how many steps a stretch takes is told by it.
-    pub fn run(self, memory: &mut [u8], limit: u64) -> Done
+    pub fn run(&self, memory: &mut [u8], limit: u64) -> Done
         ensures { going result.left result.answer result.state memory.new
-            ≡ steps self.map self.grid self.state memory.old Answer.Idle limit }
+            ≡ steps self.now.map self.now.grid self.now.state memory.old Answer.Idle limit }
     {
         let count = Count { n: self.map.count };
         let mut t = self.state;
