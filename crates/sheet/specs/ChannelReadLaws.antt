@@ -1,4 +1,5 @@
 -- Laws of Sheet, in the reader's terms: each answer on a record of kind 4 or 5 is what the definition reads there.
+--     drop_three            three bytes and what follows them
 --     missing, other_kind   no record, and one of another kind
 --     ended, trailing       a record of kind 5, and more after it
 --     body_cut              a record of kind 4 whose body is not there
@@ -18,7 +19,7 @@ use Rattle.model.specs.declared.refusal.Refusal.{Refusal}
 use Rattle.std.proofs.lemmas.List.{drop_more}
 use Rattle.sheet.specs.Resumed.{ReadsChannel}
 
-drop_three :
+pub drop_three :
     (s : List ℕ) (at : ℕ) → at + 3 ≤ length s
     → drop at s ≡ get_or s at 0 ∷ get_or s (at + 1) 0 ∷ get_or s (at + 2) 0 ∷ drop (at + 3) s
 drop_three s at h =

@@ -1,8 +1,14 @@
--- Laws of Sheet, in the reader's terms, on the first two records: each stands once, at a known place.
+-- Laws of Sheet, in the reader's terms: each answer on one record of one kind, and on the values of the first two, each of which stands
+-- once, at a known place.
+--     missing, other_kind   no record, and one of another kind
+--     body_cut, present     a record whose body is not there, and one whose body is
 --     Form                  such a record, with its value, the test of it and what follows
 --     form_refused, form_decided   the record is not there, or its value is tested
 -- Assumes nothing.
-use Rattle.std.specs.Prelude.{ℕ, ◌+◌, ◌≡◌, Bool, List, drop, Ok, Err}
+use Rattle.std.specs.Prelude.{ℕ, ◌+◌, ◌-◌, ◌≤◌, ◌<◌, ◌≡◌, Bool, List, length, get_or, take, drop, Ok, Err}
+use Rattle.std.proofs.Common.{arith, drop_of_length-le, length-drop, drop-drop, eq-eqb, ne_eqb, le-leb}
+use Rattle.std.proofs.lemmas.Bool.{lt-leb}
+use Rattle.std.proofs.lemmas.List.{drop_more}
 use denote.Ref.{Bor}
 use Rattle.model.specs.Basics.{number}
 use Rattle.model.specs.Map.{most}
@@ -12,6 +18,31 @@ use Rattle.model.specs.declared.map.Region.{Region}
 use Rattle.model.specs.declared.refusal.Refusal.{Refusal}
 use Rattle.model.specs.Answers.{Verdict}
 use Rattle.sheet.specs.Resumed.{Opens}
+
+module _ (s : List ℕ) (at kind size : ℕ) where
+  abbrev rest : List ℕ
+  rest = drop (at + 1) s
+
+  pub missing : length s ≤ at → Opens s at kind size (Err Refusal.Short)
+  missing h = record { reads = λ go. rw (drop_of_length-le s h) }
+
+  module _ (h : at < length s) where
+    pub other_kind : (get_or s at 0 ≡ kind → ⊥) → Opens s at kind size (Err Refusal.Kind)
+    other_kind n = record { reads = λ go. rw (drop_more s at 0 h, ne_eqb (get_or s at 0) kind n) }
+
+    pub body_cut : get_or s at 0 ≡ kind → length s - at - 1 < size → Opens s at kind size (Err Refusal.Short)
+    body_cut e n =
+        let l : length rest < size = rw length-drop (omega arith) in
+        record { reads = λ go. rw (drop_more s at 0 h, eq-eqb (get_or s at 0) kind e, lt-leb size (length rest) l) }
+
+    pub present :
+        {b : Bor (List ℕ)} → b.now ≡ take size rest → get_or s at 0 ≡ kind → size ≤ length s - at - 1 → Opens s at kind size (Ok b)
+    present q e n =
+        let l : size ≤ length rest = rw length-drop (omega arith) in
+        record {
+          reads =
+              λ go. rw (q, drop_more s at 0 h, eq-eqb (get_or s at 0) kind e, le-leb size (length rest) l, drop-drop size (at + 1) s);
+        }
 
 -- a record that stands once, at a known place: its value, the test of it with its number, and what follows it
 pub record Form (A : Type 0) : Type 0 where

@@ -1,10 +1,11 @@
 -- Laws of Laid.
---     laid_none, laid_copy  nothing, and a copy over a part of the buffer
+--     laid_none, laid_byte  nothing and one byte, laid; laid_copy: a copy over a part of the buffer
 --     laid_then             one thing and then, past it, another
 --     laid_front            from the front, what is laid comes first
 -- Assumes nothing.
-use Rattle.std.specs.Prelude.{ℕ, ◌+◌, ◌-◌, ◌≤◌, ◌≡◌, refl, List, [], ◌++◌, leb, length, take, drop}
-use Rattle.std.proofs.Common.{sym, ap, ◌∙◌, append_assoc, append-nil, add_assoc, add-zero, zero-add, arith, length-append, take-append-drop, drop_of_length-le, length-take-le, take_all, take_at, drop_at, drop-drop, leb-true, leb-false}
+use Rattle.std.specs.Prelude.{ℕ, ◌+◌, ◌-◌, ◌≤◌, ◌<◌, ◌≡◌, refl, List, [], ◌∷◌, ◌++◌, leb, length, set, take, drop}
+use Rattle.std.proofs.Common.{sym, ap, ◌∙◌, append_assoc, append-nil, add_assoc, add-zero, zero-add, add-one, arith, length-append, take-append-drop, drop_of_length-le, length-take-le, take_all, take_at, drop_at, drop-drop, leb-true, leb-false}
+use Rattle.std.proofs.lemmas.List.{set_split}
 use borrow.Rule.Slice.PartMut.{put_mid}
 use Rattle.model.proofs.BasicsLaws.{by_bool}
 use Rattle.sheet.specs.Laid.{laid, Laid}
@@ -12,6 +13,10 @@ use Rattle.sheet.specs.Laid.{laid, Laid}
 pub laid_none : (at : ℕ) (b : List ℕ) → Laid at [] b at b
 unfolding laid
 laid_none at b = record { past = sym (add-zero at); same = rw (add-zero, take-append-drop) }
+
+pub laid_byte : (at x : ℕ) (b : List ℕ) → at < length b → Laid at (x ∷ []) b (at + 1) (set b at x)
+unfolding laid
+laid_byte at x b h = record { past = refl; same = rw (add-one, set_split b at x h) }
 
 -- a copy over a part of the buffer is laid there
 pub laid_copy : (at : ℕ) (xs b : List ℕ) {ys : List ℕ} → ys ≡ xs → Laid at xs b (at + length xs) (put_mid at (at + length xs - at) b ys)

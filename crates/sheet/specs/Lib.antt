@@ -1,6 +1,6 @@
 -- What the writer leaves in a lent buffer and what the reader's answers say, with the laws that their functions rest on:
---     Laid           bytes laid into a buffer at an offset; LaidLaws: nothing, a copy, one thing and then another
---     RunLaws        a run of records, split; WriterLaws: the writer's cases
+--     Laid           bytes laid into a buffer at an offset; LaidLaws: nothing, one byte, a copy, one thing and then another
+--     RunLaws        a run of records, split; WriterLaws: the writer's three cases
 --     Resumed        what is left to read after each answer
 --     HeadLaws, DomainLaws, ChannelReadLaws   each answer on a record
 pub mod Laid

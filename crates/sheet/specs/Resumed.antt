@@ -1,6 +1,9 @@
 -- What is left to read after each of the reader's answers: an answer's contract is that this is what the definition reads.
+--     sheet_equal   what the reader returns, by its two parts
 -- Assumes nothing.
 use Rattle.std.specs.Prelude.{ℕ, suc, ◌+◌, ◌*◌, ◌≤◌, ◌<◌, ◌≡◌, List, [], true, length, get_or, set, drop, Option, Some, None, Result, Ok, Err}
+use Rattle.std.proofs.Common.{◌∙◌}
+use Rattle.std.proofs.Math.Path.{ap}
 use denote.Ref.{Bor}
 use Rattle.model.specs.Map.{most, Grid, no_grid}
 use Rattle.model.specs.Sheet.{Found, finish, one_record, kernel_read, region_of, beginning_map, with_domain, domains_read, channels_read}
@@ -9,6 +12,8 @@ use Rattle.model.specs.declared.map.Domain.{Domain}
 use Rattle.model.specs.declared.map.Map.{Map}
 use Rattle.model.specs.declared.refusal.Refusal.{Refusal}
 use Rattle.model.specs.declared.refusal.RefusedAt.{RefusedAt}
+use Rattle.model.specs.declared.call.Sheet.{Sheet}
+use Rattle.model.specs.Answers.{Reading}
 use Rattle.sheet.specs.declared.cursor.Cursor.{Cursor}
 
 -- one record of one kind: with its body there, what follows goes on with the body and the rest
@@ -71,3 +76,7 @@ pub record ReadsChannel (s : List ℕ) (at count p : ℕ) (r : Result (Option (�
 abbrev pub closed : Result Map RefusedAt → Grid → Found
 closed (Ok m) g = Found.whole m g
 closed (Err f) g = Found.refused f.refusal f.at
+
+sheet_equal : (x : Sheet) {r : Reading} {m : Map} → x.reading ≡ r → x.map ≡ m → x ≡ record { reading = r; map = m }
+sheet_equal x {r} {m} e f =
+    ap (λ (q : Reading). record { reading = q; map = x.map }) e ∙ ap (λ (q : Map). record { reading = r; map = q }) f
