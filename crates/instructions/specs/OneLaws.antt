@@ -1,7 +1,8 @@
 -- "fetch of the kind byte, kind above 19, fetch of the body, registers above 7 in body order, then access or channel": what the plan
 -- of an instruction comes to, by the tests that the code makes. It fetches by comparing with the end of the code.
 --     fetch_past, checked_above, body_five   the fetch of a body, its registers, and the five bytes that are read for it
---     plan_told                              an instruction whose kind byte is fetched
+--     at_fetch, one_fetch                    an instruction whose kind byte is not fetched
+--     plan_told                              one whose kind byte is
 -- Assumes nothing.
 use Rattle.std.specs.Prelude.{◌≡◌, Option as Found, ℕ, ◌+◌, ◌-◌, ◌<◌, ◌≤◌, Bool, true, false, List, [], ◌∷◌, None, Some, nat_le, nat_lt, slice_index, refl, if◌then◌else◌}
 use Rattle.std.proofs.Common.{sym, ap, ◌∙◌, arith}
@@ -23,7 +24,8 @@ use Rattle.model.specs.declared.instruction.Decoded.{Decoded}
 use Rattle.instructions.specs.AccessLaws.{first_denied}
 use Rattle.instructions.specs.Home.{home_all}
 use Rattle.instructions.specs.Suspect.{above}
-use Rattle.instructions.specs.Told.{held, lowest_of}
+use Rattle.instructions.specs.Told.{held, lowest_of, seen, Tells}
+use Rattle.instructions.specs.declared.went.Went.{Went}
 
 -- ---- the fetch: bytes that start in the code, or at its end
 
@@ -61,6 +63,21 @@ five f = 5
 body_five : (kind : ℕ) → tested size (row_of kind) ≡ tested five (row_of kind)
 unfolding row_of table peek work checked
 body_five kind = sym (get_or-map (tested size) table kind _) ∙ get_or-map (tested five) table kind _
+
+-- ---- an instruction whose kind byte is not fetched
+
+module _ (own : Domain) (count : ℕ) (row : List Bool) (memory : List ℕ) (c : Context) where
+  at_fetch :
+      inside own.code c.counter ≡ false
+      → carry (held own count row) memory (plan c) ≡ kept memory (Deed.faults (Reason.Fetch c.counter))
+  unfolding plan carry lowest may
+  at_fetch e = rw e
+
+-- as `one` tells it
+pub one_fetch :
+    (own : Domain) (count : ℕ) (row : List Bool) (rs : List ℕ) (n : ℕ) (memory : List ℕ) → inside own.code n ≡ false
+    → Tells (held own count row) plan rs n memory (Went.Faults (Reason.Fetch n)) rs memory
+one_fetch own count row rs n memory e = (λ x b. at_fetch own count row memory (seen rs n x b) e, refl)
 
 -- ---- an instruction whose kind byte is fetched, by the tests that the code makes
 

@@ -1,9 +1,10 @@
 -- Laws of Steps.
+--     keeps                         registers that stay keep, however it went
 --     steps_acts                    a step that is done, whatever the answer before
 --     Reaches                       how far a stretch has come: the steps are those from there
 --     reaches_start, -more, -stops, -spent   it has come nowhere; one instruction further; its ends
 -- Assumes nothing.
-use Rattle.std.specs.Prelude.{◌≡◌, ℕ, suc, ◌-◌, ◌<◌, ◌≤◌, Bool, false, List, nat_eq}
+use Rattle.std.specs.Prelude.{◌≡◌, ℕ, suc, ◌-◌, ◌<◌, ◌≤◌, Bool, false, List, nat_eq, refl}
 use Rattle.std.proofs.Common.{sym, subst, ◌∙◌, set-set, ne_eqb}
 use Rattle.std.proofs.Math.Path.{ap}
 use native.Mathlib.Omega.{arith}
@@ -26,6 +27,14 @@ use Rattle.model.specs.declared.event.Answer.{Answer}
 use Rattle.instructions.specs.Told.{held, seen, loaded, deed, Keeps, Tells}
 use Rattle.instructions.specs.Steps.{Going, steps, onward, come, Stands, Granted, Stretches}
 use Rattle.instructions.specs.declared.went.Went.{Went}
+
+keeps : (w : Went) (rs : List ℕ) → Keeps w rs rs
+keeps (Went.Moved n) rs = tt
+keeps (Went.Sends t w n) rs = refl
+keeps (Went.Receives r s n) rs = refl
+keeps (Went.Yields n) rs = refl
+keeps Went.Halts rs = refl
+keeps (Went.Faults x) rs = refl
 
 abbrev with_contexts : State → List Context → State
 with_contexts s cs = record { active = s.active; contexts = cs }

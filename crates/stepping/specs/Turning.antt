@@ -1,11 +1,13 @@
 -- The loop over steps, turn by turn: what it keeps, and its ends.
 --     performed       an instruction leaves as many contexts, and one of the domains or none active
+--     turning_place, turning_receiver   the active domain has its place, and a word is sent to one of the domains
 --     turning_on      a stretch of the active domain and its last instruction;  turning_spent, turning_idle: the ends of the loop
 -- Assumes nothing.
-use Rattle.std.specs.Prelude.{◌≡◌, ℕ, zero, suc, ◌-◌, ◌≤◌, ◌<◌, refl, List, [], length, get_or}
+use Rattle.std.specs.Prelude.{◌≡◌, ℕ, zero, suc, ◌-◌, ◌≤◌, ◌<◌, refl, Bool, List, [], length, get_or}
 use Rattle.std.proofs.Common.{sym, subst, ap, ◌∙◌, arith, eq-eqb}
-use Rattle.model.proofs.BasicsLaws.{by_bool}
-use Rattle.model.specs.Map.{most, Grid, domain}
+use Rattle.model.proofs.BasicsLaws.{by_bool, and_left}
+use Rattle.model.specs.Map.{most, Grid, is_domain, domain}
+use Rattle.model.proofs.MapLaws.{in_range}
 use Rattle.model.specs.States.{full, set_register, received, own, put_own, context, put, switch}
 use Rattle.model.proofs.StatesLaws.{context_same, put_long}
 use Rattle.model.proofs.SwitchLaws.{found_within}
@@ -17,9 +19,10 @@ use Rattle.model.specs.declared.state.Context.{Context}
 use Rattle.model.specs.declared.state.State.{State}
 use Rattle.model.specs.declared.event.Answer.{Answer}
 use Rattle.instructions.specs.Told.{loaded, deed}
-use Rattle.instructions.specs.Steps.{going, steps, onward, come, Stretches}
+use Rattle.instructions.specs.Steps.{going, steps, onward, come, Granted, Stretches}
 use Rattle.instructions.specs.StepsLaws.{steps_acts}
 use Rattle.instructions.specs.declared.went.Ran.{Ran}
+use Rattle.instructions.specs.declared.went.Went.{Went}
 
 abbrev pub Stays : ℕ → ℕ → State → Type 0
 Stays count long s = (s.active ≤ count) × (length s.contexts ≡ long)
@@ -56,6 +59,17 @@ module _ (m : Map) (g : Grid) (s : State) (memory₀ : List ℕ) (limit : ℕ) w
     pub rest : steps m g t memory answer left ≡ steps m g s memory₀ Answer.Idle limit
 
   module _ (memory : List ℕ) (t : State) (left : ℕ) (answer : Answer) (T : Turning memory t left answer) where
+    -- the active domain has its place among the most that there are
+    pub turning_place : 1 ≤ t.active → t.active - 1 < most
+    turning_place busy = omega (arith, T.within, T.counted)
+
+    -- a word is sent to one of the domains
+    pub turning_receiver :
+        (row : List Bool) (x : Went) (to w k : ℕ) → x ≡ Went.Sends to w k → Granted m.count row x → (1 ≤ to) × (to ≤ most)
+    turning_receiver row x to w k i f =
+        let r = in_range m.count to (and_left (is_domain m.count to) _ (subst (Granted m.count row) i f)) in
+        (r.0, omega (arith, r.1, T.counted))
+
     pub turning_spent : left ≡ 0 → going left answer t memory ≡ steps m g s memory₀ Answer.Idle limit
     unfolding steps
     turning_spent e = rw e (rw e at T.rest)
