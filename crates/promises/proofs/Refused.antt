@@ -65,6 +65,12 @@ closing_accepted (Err (Stop.Refused r)) h = absurd h
 trace_accepted : (bytes : List ℕ) → of_close (trace_of 0 bytes).close ≡ Ruling.accepted
 trace_accepted bytes = closing_accepted (trace_of 0 bytes).close (trace_number (length bytes) 0 bytes)
 
+-- and what a batch that was not refused has as its ending is no refusal
+batch_accepted :
+    (m : Map) (g : Grid) (s : State) (memory : List ℕ) (limit : ℕ)
+    → of_answer 0 (batched (Ok tt) s memory (batch m g s memory limit)).value.ending ≡ Ruling.accepted
+batch_accepted m g s memory limit = batched_says (Ok tt) s memory (batch m g s memory limit)
+
 -- ---- the theorems
 
 pub which : (c : Call) → says c (value c) ≡ ruling (tests c)

@@ -9,6 +9,7 @@ use Rattle.model.specs.GridLaws.{Shaped}
 use Rattle.model.specs.RecordLaws.{Octets}
 use Rattle.model.specs.Calls.{Left, left, reader, writer}
 use Rattle.model.specs.declared.map.Map.{Map}
+use Rattle.model.specs.declared.refusal.Refusal.{Refusal}
 use Rattle.model.specs.declared.call.Sheet.{Sheet}
 use Rattle.model.specs.Answers.{Writing}
 use Rattle.promises.specs.Trips.{written_fits, written_reads, read_writes}
@@ -31,6 +32,13 @@ module _ (m : Map) (g : Grid) (buffer : List ℕ) {w : Writing} {after : List �
       let k : result_unwrap_or w 0 ≡ n = ap (λ (v : Writing). result_unwrap_or v 0) (sym value ∙ f) in
       r ∙ ap (λ (x : Left Writing (List ℕ)). reader (take (result_unwrap_or w 0) x.lent)) e
       ∙ rw k (written_reads m g buffer n f s)
+
+  -- a writer that refuses leaves nothing to read back
+  pub nothing_written : {r : Refusal} {x : Sheet} {h : Grid} → w ≡ Err r → ReadsBack m g buffer x h
+  nothing_written {r} f n i =
+      let c : ◌≡◌ {A = Writing} (Err r) (Ok n) = sym (value ∙ f) ∙ i in
+      let z : ◌≡◌ {A = ℕ} 0 1 = cc in
+      absurd (omega arith)
 
 pub writes_back :
     (s buffer : List ℕ) {after : List ℕ} {x : Sheet} {h : Grid} {w : Writing} → Octets s → left x h ≡ reader s
