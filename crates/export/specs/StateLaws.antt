@@ -2,16 +2,14 @@
 --     status_known, status_none   a word that the table of statuses has, and one past its end
 --     state_same, state_other     words that are the state's own, and others
 -- Assumes nothing.
-use Rattle.std.specs.Prelude.{ℕ, ◌≤◌, ◌≡◌, Bool, true, false, List, nat_eq, length}
+use Rattle.std.specs.Prelude.{ℕ, ◌≤◌, ◌≡◌, Bool, true, false, List}
 use Rattle.std.proofs.Math.Path.{sym, ap}
 use Rattle.std.proofs.Common.{◌∙◌}
 use Rattle.std.proofs.Math.ListN.{get_or, get_or-eq_default}
-use Rattle.std.specs.Cmp.Lexicographic.{pointwise}
 use Rattle.model.specs.States.{with_active}
 use Rattle.model.specs.declared.state.Status.{Status}
 use Rattle.model.specs.declared.state.State.{State}
 use Rattle.export.specs.Words.{alike}
-use Rattle.export.specs.WordsLaws.{alike_pointwise}
 use Rattle.export.specs.StateWords.{statuses, status_by, unpacked, packed, state_of}
 
 module _ (a b k : ℕ) where
@@ -24,15 +22,10 @@ module _ (a b k : ℕ) where
   status_none h = sym (get_or-eq_default (statuses a b) Status.Halted h)
 
 -- the state that w is read as, and whether its own words are w
-module _ (w : List ℕ) {s : State} {back : List ℕ} {x : Bool} (S : s ≡ unpacked w) (B : back ≡ packed s) (X : x ≡ pointwise nat_eq back w)
-    (L : length back ≡ 121) (M : length w ≡ 121) where
+module _ (w : List ℕ) {s : State} {back : List ℕ} {x : Bool}
+    (S : s ≡ unpacked w) (B : back ≡ packed s) (X : x ≡ alike back w 121) where
   test : {b : Bool} → x ≡ b → alike (packed (unpacked w)) w 121 ≡ b
-  test e =
-      sym (ap (λ s. alike (packed s) w 121) S)
-      ∙ sym (ap (λ o. alike o w 121) B)
-      ∙ sym (alike_pointwise back w 121 L M)
-      ∙ sym X
-      ∙ e
+  test e = sym (ap (λ s. alike (packed s) w 121) S) ∙ sym (ap (λ o. alike o w 121) B) ∙ sym X ∙ e
 
   pub state_same : x ≡ true → s ≡ state_of w
   unfolding state_of

@@ -1,23 +1,35 @@
 -- Laws for code that takes blocks apart and lays them.
+--     eight_of          eight things that were made one by one
 --     eight_again       a list of eight, read place by place, is the list
 --     eight_same        eight things that are the same one by one
 --     eight_made        what `from_fn` makes, of a closure that changes nothing
 --     eight_laid        eight parts, flattened and copied: one after the other
 --     chunk             a word of a chunk is a word of the block that was cut
+--     sets_past         words that are set past the end change nothing; sets_more: the first of them and then the rest
+--     alike_stop        the last of n words differs; alike_on: it is the same, and the others decide
 --     alike_pointwise   `==` of two blocks of n words
 -- Assumes nothing.
-use Rattle.std.specs.Prelude.{ℕ, zero, suc, ◌+◌, ◌*◌, ◌<◌, ◌≡◌, refl, ◌&&◌, List, [], ◌∷◌, eqb, nat_eq, length, get_or, drop}
+use Rattle.std.specs.Prelude.{ℕ, zero, suc, ◌+◌, ◌-◌, ◌*◌, ◌<◌, ◌≤◌, ◌≡◌, refl, false, ◌&&◌, List, [], ◌∷◌, eqb, nat_eq, length, get_or, set, drop}
 use Rattle.std.specs.List.{flat_map}
 use Rattle.std.specs.Array.{IsFromFnResult}
 use Rattle.std.specs.Fn.{Called}
 use Rattle.std.specs.Simd.{first_chunks}
 use Rattle.std.specs.Cmp.Lexicographic.{pointwise}
-use Rattle.std.proofs.Common.{sym, ap, ◌∙◌, append_assoc, mul-suc, arith}
+use Rattle.std.proofs.Common.{sym, ap, ◌∙◌, add-one, append_assoc, mul-suc, arith, drop-cons, eq-eqb, ne_eqb}
 use Rattle.std.proofs.lemmas.List.{append-nil, get_or-drop, get_or-take}
+use Rattle.std.proofs.lemmas.List.Edits.{sets}
+use Rattle.std.proofs.Math.Seq.{set_out}
 use denote.Param.Members.{Mut}
 use Rattle.model.proofs.BasicsLaws.{and_swap}
+use Rattle.model.proofs.LoopLaws.{back}
 use Rattle.model.proofs.MadeLaws.{made}
 use Rattle.export.specs.Words.{alike, eight, parts}
+
+pub eight_of :
+    {A : Type 0} (f : ℕ → A) {a b c d e g h i : A}
+    → a ≡ f 0 → b ≡ f 1 → c ≡ f 2 → d ≡ f 3 → e ≡ f 4 → g ≡ f 5 → h ≡ f 6 → i ≡ f 7
+    → a ∷ b ∷ c ∷ d ∷ e ∷ g ∷ h ∷ i ∷ [] ≡ eight f
+eight_of f A B C D E G H I = rw (A, B, C, D, E, G, H, I)
 
 pub eight_again : {A : Type 0} (xs : List A) (d : A) → length xs ≡ 8 → eight (λ i. get_or xs i d) ≡ xs
 eight_again (a ∷ b ∷ c ∷ d ∷ e ∷ f ∷ g ∷ h ∷ []) z l = refl
@@ -65,6 +77,31 @@ pub eight_laid :
     (f : ℕ → List ℕ) {ys : List (List ℕ)} → ys ≡ eight f
     → {flat block : List ℕ} → flat ≡ flat_map (λ x. x) ys → block ≡ flat → block ≡ parts f
 eight_laid f e v w = w ∙ v ∙ ap (flat_map (λ x. x)) e ∙ simp (append_assoc, append-nil)
+
+-- words that are set where the block has ended
+sets_past : (l : List ℕ) (i : ℕ) (vs : List ℕ) → length l ≤ i → sets l i vs ≡ l
+sets_past l i [] h = refl
+sets_past l i (a ∷ vs) h = rw (set_out l i a h) (sets_past l (suc i) vs (omega arith))
+
+-- one word and then the words after it
+sets_more :
+    (l : List ℕ) (at : ℕ) (vs : List ℕ) (i : ℕ) → i < length vs
+    → sets l at (drop i vs) ≡ sets (set l at (get_or vs i 0)) (at + 1) (drop (i + 1) vs)
+sets_more l at vs i h = rw (add-one at, add-one i, drop-cons vs i 0 h)
+
+-- the last of n words and then those before it
+alike_turn :
+    (xs ys : List ℕ) (n : ℕ) → 0 < n → alike xs ys n ≡ eqb (get_or xs (n - 1) 0) (get_or ys (n - 1) 0) && alike xs ys (n - 1)
+unfolding alike
+alike_turn xs ys zero h = absurd (omega arith)
+alike_turn xs ys (suc n) h = rw (back n)
+
+module _ (xs ys : List ℕ) (n : ℕ) (h : 0 < n) {x y : ℕ} (X : x ≡ get_or xs (n - 1) 0) (Y : y ≡ get_or ys (n - 1) 0) where
+  pub alike_stop : (x ≡ y → ⊥) → alike xs ys n ≡ false
+  alike_stop f = let e = rw (X, Y) at (ne_eqb x y f) in alike_turn xs ys n h ∙ rw e
+
+  pub alike_on : x ≡ y → alike xs ys n ≡ alike xs ys (n - 1)
+  alike_on f = let e = rw (X, Y) at (eq-eqb x y f) in alike_turn xs ys n h ∙ rw e
 
 alike_cons : (x y : ℕ) (xs ys : List ℕ) (n : ℕ) → alike (x ∷ xs) (y ∷ ys) (suc n) ≡ eqb x y && alike xs ys n
 unfolding alike
