@@ -71,7 +71,7 @@ pub fn bytes<const N: usize>(text: &[u8]) -> ArrayVec<u8, N> {
 }
 
 // Numbers laid into a buffer from a place on; what has no room is left out, so that no caller has to have measured.
-// The offset stands beside the buffer: a part would be `get_mut(at..).unwrap_or_default()` at each of four calls, which is no plainer.
+// The offset stands beside the buffer: a part would be `get_mut(at..).unwrap_or_default()` at each call, which is no plainer.
 pub fn put(to: &mut [u8], at: usize, text: &[u8]) {
     let mut places = to.iter_mut().skip(at);
     each(text, |b| {
