@@ -1,6 +1,6 @@
 // The writer's sheet: its records are laid into a lent buffer, each past the one before. That a count is at most eight is a fact
 // about the map that is given: a Count beside it would be no plainer, since it would have to be this map's.
-ghost use Rattle.std.specs.Prelude.{◌≡◌, ◌+◌, ◌*◌, ◌≤◌, length};
+ghost use Rattle.std.specs.Prelude.{◌≡◌, ◌+◌, ◌*◌, ◌≤◌, [], ◌∷◌, length};
 ghost use Rattle.model.specs.Map.{most};
 ghost use Rattle.model.specs.Sheet.{domain_records, channel_records, sheet_bytes};
 ghost use Rattle.model.specs.GridLaws.{channel_count};
@@ -61,6 +61,14 @@ fn put_channels(buffer: &mut [u8], at: usize, g: [[bool; MOST]; MOST]) -> usize
     next
 }
 
+// The record that ends a sheet is its kind byte alone.
+fn put_end(buffer: &mut [u8], at: usize) -> usize
+    requires { at + 1 ≤ length buffer.old }
+    ensures { Laid at (5 ∷ []) buffer.old result buffer.new }
+{
+    lay(buffer, at, &[5])
+}
+
 // The whole sheet, from the buffer's front.
 pub fn put_sheet(buffer: &mut [u8], m: Map, g: [[bool; MOST]; MOST]) -> usize
     requires { (m.count ≤ most) × (15 + 21 * m.count + 3 * channel_count g ≤ length buffer.old) }
@@ -69,5 +77,5 @@ pub fn put_sheet(buffer: &mut [u8], m: Map, g: [[bool; MOST]; MOST]) -> usize
     let at_domains = lay(buffer, 0, &head(m));
     let at_channels = put_domains(buffer, at_domains, m);
     let at_five = put_channels(buffer, at_channels, g);
-    lay(buffer, at_five, &[5])
+    put_end(buffer, at_five)
 }

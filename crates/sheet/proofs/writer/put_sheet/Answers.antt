@@ -9,12 +9,12 @@ unfolding sheet_bytes
 put_channels-at_five-requires c =
     omega (arith, ap length c.head.ensures, simp length-append at (sheet_length c.args.m c.args.g))
 
-pub lay-requires : goal.lay-requires
+pub put_end-requires : goal.put_end-requires
 unfolding sheet_bytes
-lay-requires c = omega (arith, ap length c.head.ensures, simp length-append at (sheet_length c.args.m c.args.g))
+put_end-requires c = omega (arith, ap length c.head.ensures, simp length-append at (sheet_length c.args.m c.args.g))
 
 pub returns : goal.returns
 unfolding sheet_bytes
 returns c =
     laid_then (laid_then (rw c.head.ensures at c.lay-at_domains.ensures) c.put_domains-at_channels.ensures)
-    (laid_then c.put_channels-at_five.ensures c.lay.ensures)
+    (laid_then c.put_channels-at_five.ensures c.put_end.ensures)
