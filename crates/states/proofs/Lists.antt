@@ -1,7 +1,7 @@
 -- What the definitions that go down a number come to in the code: a chain over a list, or one turn of a loop.
 --     segment         a definition that asks each place from a on is `list_all` there;
 --     zeros_equal, none_ready, contexts_split     so these three are
---     all_same        an array whose elements are all a;  zeros_default, is_context, is_state: so a default value is the zero one
+--     all_same        an array whose elements are all a;  zeros_default, is_context: so a default context is the blank one
 --     first_turn      one turn of the search for a ready domain
 --     seated_turn     one turn of the start, and seated_all its end
 -- Assumes nothing.
@@ -16,7 +16,7 @@ use Rattle.std.proofs.Math.Bool.{and-true, and_comm}
 use Rattle.model.proofs.LoopLaws.{back}
 use Rattle.model.proofs.BasicsLaws.{by_bool}
 use Rattle.model.specs.Map.{most, nth}
-use Rattle.model.specs.States.{missing, is_ready, any_ready, context_good, is_blank, zeros, contexts_good, blank, no_state, ready, after, first_ready, at_entry, seated, start}
+use Rattle.model.specs.States.{missing, is_ready, any_ready, context_good, is_blank, zeros, contexts_good, blank, ready, after, first_ready, at_entry, seated, start}
 use Rattle.model.specs.declared.map.Map.{Map}
 use Rattle.model.specs.declared.state.Status.{Status}
 use Rattle.model.specs.declared.state.Context.{Context}
@@ -93,9 +93,6 @@ pub is_context :
     (x : Context) → x.registers ≡ replicate 8 0 → x.counter ≡ 0 → x.status ≡ Status.Halted
     → x.mailbox.full ≡ false → x.mailbox.word ≡ 0 → x.mailbox.sender ≡ 0 → x ≡ blank
 is_context x a b c d e f = same_context _ _ _ _ _ _ a b c d e f
-
-pub is_state : (s : State) → s.active ≡ 0 → s.contexts ≡ replicate most blank → s ≡ no_state
-is_state s e f = ap (λ (x : ℕ). record { active = x; contexts = s.contexts }) e ∙ ap (λ (x : List Context). record { active = 0; contexts = x }) f
 
 -- ---- loops
 

@@ -10,7 +10,10 @@ use model::state::{Context, State, Status};
 pub fn no_state() -> State
     ensures { result ≡ no_state }
 {
-    State::default()
+    State {
+        active: 0,
+        contexts: [Context::default(); MOST],
+    }
 }
 
 fn at_entry(entry: u32) -> Context
