@@ -1,9 +1,9 @@
 -- What the definitions that go down a number come to in the code: a chain over a list, or one turn of a loop.
 --     segment         a definition that asks each place from a on is `list_all` there;
 --     zeros_equal, none_ready, contexts_split     so these three are
---     all_same        an array whose elements are all a;  zeros_default, is_context: so a default context is the blank one
+--     all_same        an array whose elements are all a;  zeros_default, is_context, is_state: so a default value is the zero one
 --     first_turn      one turn of the search for a ready domain
---     seated_turn     one turn of the start, and seated_all its end
+--     seated_turn     one turn of the start, and seated_all its end;  seated_most: where there may be more domains than contexts
 -- Assumes nothing.
 use Rattle.std.specs.Prelude.{◌≡◌, ℕ, zero, suc, ◌+◌, ◌-◌, ◌≤◌, ◌<◌, Bool, true, false, ◌&&◌, ◌||◌, not, List, [], ◌∷◌, length, get_or, set, min, leb, take, drop, refl, replicate, eqb, if◌then◌else◌, nat_eq}
 use Rattle.std.proofs.Common.{arith, sym, ◌∙◌, ap, lt-ltb, le-ltb, leb-true, leb-false, add-one, add-zero, zero-add, length-drop}
@@ -16,7 +16,7 @@ use Rattle.std.proofs.Math.Bool.{and-true, and_comm}
 use Rattle.model.proofs.LoopLaws.{back}
 use Rattle.model.proofs.BasicsLaws.{by_bool}
 use Rattle.model.specs.Map.{most, nth}
-use Rattle.model.specs.States.{missing, is_ready, any_ready, context_good, is_blank, zeros, contexts_good, blank, ready, after, first_ready, at_entry, seated, start}
+use Rattle.model.specs.States.{missing, is_ready, any_ready, context_good, is_blank, zeros, contexts_good, blank, no_state, ready, after, first_ready, at_entry, seated, start}
 use Rattle.model.specs.declared.map.Map.{Map}
 use Rattle.model.specs.declared.state.Status.{Status}
 use Rattle.model.specs.declared.state.Context.{Context}
@@ -94,6 +94,9 @@ pub is_context :
     → x.mailbox.full ≡ false → x.mailbox.word ≡ 0 → x.mailbox.sender ≡ 0 → x ≡ blank
 is_context x a b c d e f = same_context _ _ _ _ _ _ a b c d e f
 
+pub is_state : (s : State) → s.active ≡ 0 → s.contexts ≡ replicate most blank → s ≡ no_state
+is_state s e f = ap (λ (x : ℕ). record { active = x; contexts = s.contexts }) e ∙ ap (λ (x : List Context). record { active = 0; contexts = x }) f
+
 -- ---- loops
 
 pub first_turn :
@@ -116,12 +119,22 @@ unfolding seated
 seated_past cs m i zero h = refl
 seated_past cs m i (suc n) h = rw (set_past cs i (at_entry (nth m i).entry) h) (seated_past cs m (i + 1) n (omega arith))
 
--- all that have a context are seated
+-- all are seated, and the first is active
 pub seated_all :
+    (m : Map) (t : State) (i : ℕ) → m.count ≤ i → t.active ≡ 1
+    → seated t.contexts m i (m.count - i) ≡ seated (replicate most blank) m 0 m.count → t ≡ start m
+unfolding seated start
+seated_all m t i h a e =
+    let z : m.count - i ≡ 0 = omega arith in
+    let f : t.contexts ≡ seated (replicate most blank) m 0 m.count = rw z at e in
+    ap (λ (x : ℕ). record { active = x; contexts = t.contexts }) a ∙ ap (λ (x : List Context). record { active = 1; contexts = x }) f
+
+-- all that have a context are seated
+pub seated_most :
     (m : Map) (cs : List Context) (i : ℕ) → length cs ≡ most → min m.count most ≤ i
     → seated cs m i (m.count - i) ≡ seated (replicate most blank) m 0 m.count → record { active = 1; contexts = cs } ≡ start m
 unfolding seated start
-seated_all m cs i l h e =
+seated_most m cs i l h e =
     let f : seated cs m i (m.count - i) ≡ cs =
     by_bool (leb m.count most)
     (λ b. let few = leb-true m.count most b in let none : m.count - i ≡ 0 = omega arith in rw none)

@@ -3,7 +3,7 @@ use Rattle.std.proofs.Common.{◌-◌, ◌<◌, ◌≤◌, min, sym, ◌∙◌, 
 use Rattle.std.proofs.lemmas.List.{get_or-take}
 use Rattle.model.specs.Map.{most}
 use Rattle.model.proofs.LoopLaws.{fewer}
-use Rattle.states.proofs.Lists.{seated_turn, seated_all}
+use Rattle.states.proofs.Lists.{seated_turn, seated_most}
 use Rattle.states.proofs.start.start.Goals as goal
 
 pub loop-i-preserved : goal.loop-i-preserved
@@ -22,4 +22,4 @@ returns c =
     let l = c.loop-i in
     let some = length-take c.min.result c.args.m.domains in
     let past : min c.args.m.count most ≤ l.i = omega arith in
-    seated_all _ _ l.i l.invariant.whole past l.invariant.left
+    seated_most _ _ l.i l.invariant.whole past l.invariant.left
